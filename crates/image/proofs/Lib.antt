@@ -1,0 +1,4 @@
+pub mod Walks
+pub mod Shapes
+pub mod Notes
+pub mod Heads

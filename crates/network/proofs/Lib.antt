@@ -1,0 +1,12 @@
+pub mod Lists
+pub mod Literals
+pub mod Holding
+pub mod Levels
+pub mod Same
+pub mod Networks
+pub mod Ordered
+pub mod Without
+pub mod Resolution
+pub mod Subsumption
+pub mod Sound
+pub mod Theorems

@@ -1,0 +1,11 @@
+pub mod Lists
+pub mod Assignments
+pub mod Clauses
+pub mod Levels
+pub mod Networks
+pub mod Rows
+pub mod Resolution
+pub mod Subsumption
+pub mod Values
+pub mod Lemmas
+pub mod Theorems

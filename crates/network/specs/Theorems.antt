@@ -1,0 +1,58 @@
+-- The theorems of the crate, each on the contract of a function.
+-- Assumes nothing.
+use mathlib.Core.Path.{_≡_}
+use mathlib.Core.Bool.{Bool, true, false, not, _&&_}
+use mathlib.Core.List.{List, _∷_, _++_, map}
+use mathlib.Core.Logic.{_⊎_, _↔_}
+use Prim.Native.Nat.{ℕ, _≤_}
+use Rattle.std.specs.declared.option.Option.the-variants.{Some, None}
+use Rattle.std.specs.shelf.Lists.{kept-by}
+use Rattle.network.specs.Assignments.{Assignment, node, opposite, lit, put, holds, sat, AgreeOn}
+use Rattle.network.specs.Lists.{all-of, In}
+use Rattle.network.specs.Levels.{Below, Total, Same}
+use Rattle.network.specs.Networks.{Network, level, Within, Owned, Free}
+use Rattle.network.specs.Resolution.{Resolves, resolve, Resolved, Resolved-away}
+use Rattle.network.specs.Clauses.{Rising, Ordered, without, Subsumes}
+use Rattle.network.specs.Subsumption.{Strengthens, fits-but-one}
+
+-- a clause's value depends on the nodes that it names alone, and lists of clauses hold part by part
+pub record Basics : Type 0 where
+  pub flips : (σ : Assignment) (l : ℕ) → lit σ (opposite l) ≡ not (lit σ l)
+  pub agree : (σ τ : Assignment) (C : List ℕ) → AgreeOn C σ τ → holds σ C ≡ holds τ C
+  pub elsewhere : (σ : Assignment) (n : ℕ) (b : Bool) (C : List ℕ) → Free n C → holds (put σ n b) C ≡ holds σ C
+  pub append : (σ : Assignment) (Cs Ds : List (List ℕ)) → sat σ (Cs ++ Ds) ≡ (sat σ Cs && sat σ Ds)
+  pub filter : (σ : Assignment) (p : List ℕ → Bool) (Cs : List (List ℕ)) → sat σ Cs ≡ true → sat σ (kept-by p Cs) ≡ true
+  pub mapped : (σ : Assignment) (f : List ℕ → List ℕ) (Cs : List (List ℕ)) → sat σ (map f Cs) ≡ all-of (λ C. holds σ (f C)) Cs
+
+pub record Resolution : Type 0 where
+  pub is : (x : ℕ) (C D : List ℕ) → Ordered C → Ordered D → Resolved x C D (resolve x C D)
+  pub sound : (σ : Assignment) (x : ℕ) (C D R : List ℕ) → Ordered C → Ordered D → resolve x C D ≡ Some R → holds σ C ≡ true → holds σ D ≡ true → holds σ R ≡ true
+  -- what the answer says is what the resolvent says, and a tautology says nothing
+  pub says : (σ : Assignment) (x : ℕ) (C D R : List ℕ) → Ordered C → Ordered D → resolve x C D ≡ Some R → (holds σ R ≡ true) ↔ Resolves x C D σ
+  pub nothing : (σ : Assignment) (x : ℕ) (C D : List ℕ) → Ordered C → Ordered D → resolve x C D ≡ None → Resolves x C D σ
+  pub one : (C D : List ℕ) → Rising C → Rising D → ((l : ℕ) → In l C → In l D) → ((l : ℕ) → In l D → In l C) → C ≡ D
+
+-- a node by its definition
+abbrev pub Definition-out : Type 0
+Definition-out = (cs us : List (List ℕ)) (v : ℕ) (σ : Assignment) (b : Bool) → ((D : List ℕ) → In D cs → Ordered D) → ((C : List ℕ) → In C us → Ordered C)
+    → sat (put σ v b) cs ≡ true → sat (put σ v (not b)) cs ≡ false → (sat (put σ v b) us ≡ true) ↔ Resolved-away v cs us σ
+
+pub record Fitting : Type 0 where
+  pub whole : (C D : List ℕ) → Ordered C → Ordered D → (fits-but-one C D ≡ (true, None)) ↔ Subsumes C D
+  pub but : (C D : List ℕ) → Ordered C → Ordered D → (l : ℕ) → (fits-but-one C D ≡ (true, Some l)) ↔ Strengthens l C D
+  pub subsumes : (σ : Assignment) (C D : List ℕ) → Subsumes C D → holds σ C ≡ true → holds σ D ≡ true
+  pub strengthens : (σ : Assignment) (l : ℕ) (C D : List ℕ) → Strengthens l C D → holds σ C ≡ true → holds σ D ≡ holds σ (without (opposite l) D)
+
+-- A with a literal of k, and with its opposite, at k: A holds below, and the two may go
+abbrev pub Lose-both : Type 0
+Lose-both = (own : Network) (k x : ℕ) (A C D : List ℕ) → node x ≡ k → Free k A → In C (own k) → In D (own k) → Subsumes C (x ∷ A) → Subsumes D (opposite x ∷ A) → Total (level own) k
+    → ((σ : Assignment) → Below (level own) k σ → holds σ A ≡ true)
+    × ((new : Network) → ((j : ℕ) (E : List ℕ) → In E (new j) → In E (own j)) → ((j : ℕ) (E : List ℕ) → In E (own j) → In E (new j) ⊎ ((j ≡ k) × Subsumes A E))
+    → Same (level own) (level new))
+
+-- clauses that follow may be added at any node past those that they name, and a clause that has all of another may go
+abbrev pub Refine : Type 0
+Refine = (own new : Network) → Owned own → ((i : ℕ) → Total (level own) i)
+    → ((k : ℕ) (C : List ℕ) → In C (new k) → In C (own k) ⊎ (Within k C × (m : ℕ) × ((σ : Assignment) → Below (level own) m σ → holds σ C ≡ true)))
+    → ((k : ℕ) (C : List ℕ) → In C (own k) → In C (new k) ⊎ ((j : ℕ) × (B : List ℕ) × (j ≤ k) × In B (new j) × Subsumes B C))
+    → Same (level own) (level new)

@@ -1,0 +1,18 @@
+// Networks of gates as clauses: what they mean, and the laws that every step of the simplifier rests on.
+//
+// Holds definitions (specs/), their proofs (proofs/) and one function, whose contract names the laws. Promises: resolution,
+// subsumption, strengthening and the removal of a node by its definition are sound and exact, as the laws say.
+// Rests on nothing but the standard library.
+ghost use Rattle.network.specs.Theorems.{Basics, Resolution, Definition-out, Fitting, Lose-both, Refine};
+
+// The laws of clauses and networks stand.
+pub fn laws_stand() -> u8
+    ensures basics { λ _. ⌜ Basics ⌝ }
+    ensures resolution { λ _. ⌜ Resolution ⌝ }
+    ensures definition { λ _. ⌜ Definition-out ⌝ }
+    ensures fitting { λ _. ⌜ Fitting ⌝ }
+    ensures pair { λ _. ⌜ Lose-both ⌝ }
+    ensures refine { λ _. ⌜ Refine ⌝ }
+{
+    0
+}
