@@ -6,6 +6,7 @@ pub mod Same
 pub mod Networks
 pub mod Ordered
 pub mod Without
+pub mod Rows
 pub mod Resolution
 pub mod Subsumption
 pub mod Sound

@@ -7,13 +7,14 @@ use Rattle.network.specs.Assignments.{Assignment, opposite, holds}
 use Rattle.network.specs.Clauses.{Ordered, without}
 use Rattle.network.specs.Resolution.{resolve, Resolved}
 use Rattle.network.specs.Subsumption.{Strengthens}
-use Rattle.network.specs.Theorems.{Basics, Resolution, Definition-out, Fitting, Lose-both, Refine}
+use Rattle.network.specs.Theorems.{Basics, Rows-tell, Resolution, Definition-out, Fitting, Lose-both, Refine}
 use Rattle.network.proofs.Literals.{lit-neg}
 use Rattle.network.proofs.Ordered.{ordered-rising}
 use Rattle.network.proofs.Subsumption.{fits-exactly}
 use Rattle.network.proofs.Lists as c
 use Rattle.network.proofs.Holding as holding
 use Rattle.network.proofs.Resolution as r
+use Rattle.network.proofs.Rows as rows
 use Rattle.network.proofs.Sound as s
 use Rattle.network.proofs.Networks as nets
 
@@ -25,6 +26,15 @@ basics = record {
   append = λ σ. c.all-append (holds σ);
   filter = λ σ. c.all-kept (holds σ);
   mapped = λ σ f Cs. c.all-map f (holds σ) Cs;
+}
+
+pub rows-tell : Rows-tell
+rows-tell = record {
+  few = λ n Cs. (rows.narrow-from n Cs, rows.narrow-back n Cs);
+  clash = rows.clashes-tell;
+  valued = rows.valued-from;
+  loose = rows.loose-tells;
+  tight = rows.tight-from;
 }
 
 resolve-is : (x : ℕ) (C D : List ℕ) → Ordered C → Ordered D → Resolved x C D (resolve x C D)

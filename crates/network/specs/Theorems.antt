@@ -10,6 +10,8 @@ use Rattle.std.specs.shelf.Lists.{kept-by}
 use Rattle.network.specs.Assignments.{Assignment, node, opposite, lit, put, holds, sat, AgreeOn}
 use Rattle.network.specs.Lists.{all-of, In}
 use Rattle.network.specs.Levels.{Below, Total, Same}
+use Rattle.network.specs.Rows.{lower, clashes, is-loose, Narrow, Valued, Tight, Clash, Loose}
+use lib.ListN.{length}
 use Rattle.network.specs.Networks.{Network, level, Within, Owned, Free}
 use Rattle.network.specs.Resolution.{Resolves, resolve, Resolved, Resolved-away}
 use Rattle.network.specs.Clauses.{Rising, Ordered, without, Subsumes}
@@ -24,6 +26,15 @@ pub record Basics : Type 0 where
   pub filter : (σ : Assignment) (p : List ℕ → Bool) (Cs : List (List ℕ)) → sat σ Cs ≡ true → sat σ (kept-by p Cs) ≡ true
   pub mapped : (σ : Assignment) (f : List ℕ → List ℕ) (Cs : List (List ℕ)) → sat σ (map f Cs) ≡ all-of (λ C. holds σ (f C)) Cs
 
+-- the tests over all rows of a node tell exactly whether some values of the other nodes leave it none, or both
+pub record Rows-tell : Type 0 where
+  pub few : (n : ℕ) (Cs : List (List ℕ)) → (length (lower n Cs) ≤ 8) ↔ Narrow n Cs
+  pub clash : (n : ℕ) (Cs : List (List ℕ)) → (clashes n Cs ≡ true) ↔ Clash n Cs
+  pub valued : (n : ℕ) (Cs : List (List ℕ)) → clashes n Cs ≡ false → Valued n Cs
+  pub loose : (n : ℕ) (Cs : List (List ℕ)) → (is-loose n Cs ≡ true) ↔ Loose n Cs
+  pub tight : (n : ℕ) (Cs : List (List ℕ)) → is-loose n Cs ≡ false → Tight n Cs
+
+-- `resolve` is the resolvent as a set in order, sound, and none exactly for a tautology
 pub record Resolution : Type 0 where
   pub is : (x : ℕ) (C D : List ℕ) → Ordered C → Ordered D → Resolved x C D (resolve x C D)
   pub sound : (σ : Assignment) (x : ℕ) (C D R : List ℕ) → Ordered C → Ordered D → resolve x C D ≡ Some R → holds σ C ≡ true → holds σ D ≡ true → holds σ R ≡ true

@@ -3,11 +3,12 @@
 // Holds definitions (specs/), their proofs (proofs/) and one function, whose contract names the laws. Promises: resolution,
 // subsumption, strengthening and the removal of a node by its definition are sound and exact, as the laws say.
 // Rests on nothing but the standard library.
-ghost use Rattle.network.specs.Theorems.{Basics, Resolution, Definition-out, Fitting, Lose-both, Refine};
+ghost use Rattle.network.specs.Theorems.{Basics, Rows-tell, Resolution, Definition-out, Fitting, Lose-both, Refine};
 
 // The laws of clauses and networks stand.
 pub fn laws_stand() -> u8
     ensures basics { λ _. ⌜ Basics ⌝ }
+    ensures rows { λ _. ⌜ Rows-tell ⌝ }
     ensures resolution { λ _. ⌜ Resolution ⌝ }
     ensures definition { λ _. ⌜ Definition-out ⌝ }
     ensures fitting { λ _. ⌜ Fitting ⌝ }
