@@ -1,8 +1,25 @@
+ghost use Rattle.std.specs.Written.{decimal};
+ghost use Rattle.std.specs.declared.option.Option.the-variants.{Some};
+ghost use lib.Chars.{codes};
+ghost use mathlib.Core.List.{_++_};
+use std::fmt;
+
 // Why a call is refused, by its number in the table of refusals, and where: a node, a number, a size, or 0.
 #[derive(Clone, Copy, PartialEq, Eq, Debug)]
 pub struct Fault {
     pub number: u32,
     pub place: u32,
+}
+
+// The line that a program prints for it.
+pub impl fmt::Display for Fault as FaultDisplay {
+    ghost shown = { λ f. Some (codes "refused " ++ (decimal (f .number) ++ (codes " " ++ decimal (f .place)))) };
+
+    fn fmt<W: fmt::Write>(&self, f: &mut fmt::Formatter<W>) -> fmt::Result {
+        let number = self.number;
+        let place = self.place;
+        write!(f, "refused {number} {place}")
+    }
 }
 
 // The counts and offsets of an image do not fit; place 0.

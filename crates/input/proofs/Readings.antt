@@ -15,7 +15,7 @@ use Rattle.image.specs.Faults.{fault, tested, _then_}
 use Rattle.intake.specs.Answers.{take-in-answer, froze-answer}
 use Rattle.intake.proofs.Steps.{then-at, then-stop}
 use Rattle.image.specs.declared.fault.Fault.{Fault}
-use Rattle.input.specs.Inputs.{word, words-of, input-words, parts, freeze-answer, with-frozen, open-answer}
+use Rattle.input.specs.Inputs.{word, words-of, input-words, parts, freeze-answer, with-frozen, open-answer, Opened, Opened-bytes}
 
 words-step : (xs : List ℕ) → 4 ≤ length xs → words-of xs ≡ word (getD xs 0 0) (getD xs 1 0) (getD xs 2 0) (getD xs 3 0) ∷ words-of (drop 4 xs)
 unfolding words-of
@@ -119,3 +119,6 @@ module _ (ws a b : List ℕ) (e : parts ws ≡ Ok (a, b)) where
   unfolding open-answer
   input-all u c r i q h = h ∙ ap (λ (z : List ℕ). freeze-answer z a) q ∙ sym (then-at (parts ws) _ (a, b) e ∙ then-at (take-in-answer b) _ u (sym i))
 
+-- the words that were written are those that were opened
+pub opened-words : (bytes out image : List ℕ) (n k : ℕ) (fs : List Bool) → k ≡ n → input-words bytes ≡ Ok (take n out) → Opened (take k out) image fs → Opened-bytes bytes image fs
+opened-words bytes out image n k fs e d o = (take n out, d, subst (λ (i : ℕ). Opened (take i out) image fs) e o)

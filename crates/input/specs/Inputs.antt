@@ -49,3 +49,11 @@ open-answer ws = parts ws then (λ p. take-in-answer (p .1) then (λ _. freeze-a
 -- the image and the flags are those of an input
 abbrev pub Opened : List ℕ → List ℕ → List Bool → Type 0
 Opened ws image fs = (ns : List ℕ) × (parts ws ≡ Ok (ns, image)) × (fs ≡ with-frozen only-zero ns)
+
+-- what opening the bytes of an input answers
+abbrev pub bytes-answer : List ℕ → Result (Unit {0}) Fault
+bytes-answer bytes = input-words bytes then open-answer
+
+-- the image and the flags are those of an input given as bytes
+abbrev pub Opened-bytes : List ℕ → List ℕ → List Bool → Type 0
+Opened-bytes bytes image fs = (ws : List ℕ) × (input-words bytes ≡ Ok ws) × Opened ws image fs

@@ -1,7 +1,8 @@
-ghost use Rattle.input.specs.Inputs.{Opened, freeze-answer, open-answer, parts, with-frozen};
+ghost use Rattle.input.specs.Inputs.{Opened, Opened-bytes, bytes-answer, freeze-answer, open-answer, parts, with-frozen};
 ghost use Rattle.std.specs.Vec.{made};
 ghost use Rattle.std.specs.declared.result.Result.the-variants.{Err, Ok};
 ghost use mathlib.Core.Path.{_≡_};
+use crate::bytes::decode;
 use image::fault::Fault;
 use image::fault::HEAD;
 use intake::state::Intake;
@@ -42,5 +43,15 @@ pub fn open_input<'i>(words: &'i [u32], into: &mut Intake<'i>) -> Result<(), Fau
     take_in(image, &mut opened)?;
     freeze_all(nodes, &mut opened)?;
     *into = opened;
+    Ok(())
+}
+
+// Opens an input from its bytes, by way of `words`; or refuses it, and leaves the intake as it was.
+pub fn open_bytes<'i>(bytes: &[u8], words: &'i mut [u32; 16384], into: &mut Intake<'i>) -> Result<(), Fault>
+    ensures answer { λ r. ⌜ r ≡ bytes-answer (now (bytes .entry)) ⌝ }
+    ensures into { λ r. ⌜ elim r [ Ok _ ↦ Opened-bytes (now (bytes .entry)) (now (now (into .exit) .image)) (now (into .exit) .frozen) | Err f ↦ now (into .exit) ≡ now (into .entry) ] ⌝ }
+{
+    let n = decode(bytes, words)?;
+    open_input(&words[0..n], into)?;
     Ok(())
 }
