@@ -47,7 +47,11 @@ pub fn open_input<'i>(words: &'i [u32], into: &mut Intake<'i>) -> Result<(), Fau
 }
 
 // Opens an input from its bytes, by way of `words`; or refuses it, and leaves the intake as it was.
-pub fn open_bytes<'i>(bytes: &[u8], words: &'i mut [u32; 16384], into: &mut Intake<'i>) -> Result<(), Fault>
+pub fn open_bytes<'i>(
+    bytes: &[u8],
+    words: &'i mut [u32; 16384],
+    into: &mut Intake<'i>,
+) -> Result<(), Fault>
     ensures answer { λ r. ⌜ r ≡ bytes-answer (now (bytes .entry)) ⌝ }
     ensures into { λ r. ⌜ elim r [ Ok _ ↦ Opened-bytes (now (bytes .entry)) (now (now (into .exit) .image)) (now (into .exit) .frozen) | Err f ↦ now (into .exit) ≡ now (into .entry) ] ⌝ }
 {

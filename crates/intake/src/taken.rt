@@ -1,5 +1,5 @@
 ghost use Prim.Native.Nat.{_≤_};
-ghost use Rattle.image.specs.Headers.{top as topOf};
+ghost use Rattle.image.specs.Headers.{run as runOf, top as topOf};
 ghost use Rattle.image.specs.declared.fault.Fault.{Fault as FaultT};
 ghost use Rattle.intake.specs.Accepted.{Answers as Means, total};
 ghost use Rattle.intake.specs.Answers.{first-of, froze-answer, loose-at, loose-nodes, only-zero, smallest, take-in-answer};
@@ -33,19 +33,19 @@ impl<'i> Intake<'i> {
         }
     }
 
-    // The words of the image.
-    pub fn image(&self) -> &'i [u32]
-        ensures { λ r. ⌜ r ≡ now (self .entry) .image ⌝ }
-    {
-        self.image
-    }
-
     // The highest node.
     pub fn top(&self) -> u32
         ensures answer { λ r. ⌜ r ≡ topOf (now (now (self .entry) .image)) ⌝ }
         ensures small { λ r. ⌜ r ≤ 1023 ⌝ }
     {
         self.image[0]
+    }
+
+    // The words of a node; none for node 0 and past the highest node.
+    pub fn run(&self, node: u32) -> &'i [u32]
+        ensures { λ r. ⌜ now r ≡ runOf (now (now (self .entry) .image)) node ⌝ }
+    {
+        run_of(self.image, node)
     }
 
     // The number of clauses besides node 0's.
@@ -67,7 +67,7 @@ impl<'i> Intake<'i> {
         ensures answer { λ r. ⌜ r ≡ froze-answer (now (now (self .entry) .image)) node ⌝ }
         ensures state { λ r. ⌜ elim r [ Ok _ ↦ (now (self .exit) .image ≡ now (self .entry) .image) × (now (self .exit) .frozen ≡ set (now (self .entry) .frozen) node true) | Err f ↦ now (self .exit) ≡ now (self .entry) ] ⌝ }
     {
-        if node > self.image[0] {
+        if node > self.top() {
             return Err(Fault {
                 number: STRANGER,
                 place: node,
@@ -81,14 +81,14 @@ impl<'i> Intake<'i> {
     pub fn is_loose(&self, node: u32) -> bool
         ensures { λ r. ⌜ r ≡ (not (getD (now (self .entry) .frozen) node false) && loose-at (now (now (self .entry) .image)) node) ⌝ }
     {
-        !self.is_frozen(node) && has_both(run_of(self.image, node), node)
+        !self.is_frozen(node) && has_both(self.run(node), node)
     }
 
     // The lowest node that is loose.
     pub fn loose(&self) -> Option<u32>
         ensures { λ r. ⌜ r ≡ first-of (loose-nodes (now (now (self .entry) .image)) (now (self .entry) .frozen) (topOf (now (now (self .entry) .image)))) ⌝ }
     {
-        for k in 0..self.image[0] {
+        for k in 0..self.top() {
             if self.is_loose(k + 1) {
                 return Some(k + 1);
             }
@@ -101,7 +101,7 @@ impl<'i> Intake<'i> {
         ensures { λ r. ⌜ made r (λ v. vec-items v ≡ loose-nodes (now (now (self .entry) .image)) (now (self .entry) .frozen) (topOf (now (now (self .entry) .image)))) ⌝ }
     {
         let mut nodes = Vec::new(heap);
-        for k in 0..self.image[0] {
+        for k in 0..self.top() {
             if self.is_loose(k + 1) {
                 nodes.push(k + 1)?;
             }

@@ -6,12 +6,8 @@ use Rattle.std.specs.Of.Vec.{vec-items}
 use Rattle.image.specs.Headers.{top}
 use Rattle.intake.specs.Answers.{loose-nodes}
 use Rattle.intake.proofs.LooseNodes.{loose-none, loose-yes, loose-no}
-use Rattle.intake.proofs.Steps.{accepted-parts}
 use Rattle.intake.proofs.state.Intake.loose_nodes.Needs as need
 use Rattle.intake.proofs.state.Intake.loose_nodes.Needs.{then-is-loose·in-Continue-push, else-is-loose}
-
-pub index-self-0 : need.index-self-0
-index-self-0 c = let h = accepted-parts _ (c .args .self .now .right) .head in omega (arith, h .three)
 
 pub loop-k-holds : need.loop-k-holds
 loop-k-holds c = c .new-nodes .ensures .items ∙ sym (loose-none _ _)
@@ -27,5 +23,5 @@ loop-k-again c =
 
 pub returns : need.returns
 returns c =
-    let e : c .loop-k .k ≡ top (c .args .self .now .image .now) = omega arith in
+    let e : c .loop-k .k ≡ top (c .args .self .now .image .now) = omega (arith, c .top-k-end .ensures .answer) in
     c .loop-k .inv ∙ ap (loose-nodes (c .args .self .now .image .now) (c .args .self .now .frozen)) e
