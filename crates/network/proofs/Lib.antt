@@ -9,5 +9,9 @@ pub mod Without
 pub mod Rows
 pub mod Resolution
 pub mod Subsumption
+pub mod Fits
+pub mod Values
+pub mod Signature
+pub mod Spared
 pub mod Sound
 pub mod Theorems

@@ -1,21 +1,24 @@
 -- `resolve` is the resolvent. Assumes nothing.
-use mathlib.Core.Path.{_≡_, refl}
+use mathlib.Core.Path.{_≡_, refl, ap, subst}
 use mathlib.Core.Bool.{Bool, true, false, cond, not}
 use mathlib.Core.List.{List, [], _∷_}
-use mathlib.Core.Logic.{_⊎_, inl, inr, ⊎-elim}
+use mathlib.Core.Logic.{_⊎_, inl, inr, ⊎-elim, _↔_}
 use Prim.Native.Nat.{ℕ}
 use native.Mathlib.Omega.{arith}
 use lib.Dec.{eqb, ltb}
+use Rattle.std.specs.declared.option.Option.{Option}
 use Rattle.std.specs.declared.option.Option.the-variants.{Some, None}
 use Rattle.std.specs.shelf.Lists.{kept-by}
-use Rattle.std.proofs.shelf.Tests.{both-ways, cond-both, or-cases, or-parts}
+use Rattle.std.proofs.shelf.Tests.{both-ways, cond-both, or-cases, or-parts, or-from, ne-eqb}
 use Rattle.std.proofs.shelf.Ways.{tells}
 use Rattle.network.specs.Assignments.{node, opposite}
 use Rattle.network.specs.Lists.{In}
 use Rattle.network.specs.Clauses.{Rising, Ordered, without}
-use Rattle.network.specs.Resolution.{merge, twice, resolve, Either-of, Resolved}
-use Rattle.network.proofs.Literals.{node-cases}
+use Rattle.network.specs.Resolution.{merge, twice, resolve, Either-of, Resolvent, Tautology, Resolved}
+use Rattle.network.specs.Subsumption.{Strengthens}
+use Rattle.network.proofs.Literals.{node-neg, neg-apart, node-cases}
 use Rattle.network.proofs.Lists.{in-kept, kept-in}
+use Rattle.network.proofs.Ordered.{ordered-rising, ordered-once, ordered-kept}
 
 pub merge-ind : (P : List ℕ → List ℕ → Type 0) → ((D : List ℕ) → P [] D) → ((c : ℕ) (C : List ℕ) → P (c ∷ C) [])
     → ((c : ℕ) (C : List ℕ) (d : ℕ) (D : List ℕ) → P C (d ∷ D) → P (c ∷ C) D → P C D → P (c ∷ C) (d ∷ D)) → (C D : List ℕ) → P C D
@@ -118,3 +121,49 @@ module _ (x : ℕ) (C D : List ℕ) (rC : Rising C) (rD : Rising D) where
           let k = clash-of (merge (without x C) (without (opposite x) D)) union-rising e in
           record { at = k .0; one = union-only (k .0) (k .1); two = union-only (opposite (k .0)) (k .2) }
       go false e = record { rising = ordered (merge (without x C) (without (opposite x) D)) union-rising e; all = union-all; only = union-only }
+
+-- an ordered list has no node twice in a row
+pub ordered-untwice : (R : List ℕ) → Ordered R → twice R ≡ false
+ordered-untwice [] o = refl
+ordered-untwice (x ∷ []) o = refl
+ordered-untwice (x ∷ y ∷ R) (h, o) = or-from (eqb (node x) (node y)) (twice (y ∷ R)) (ne-eqb (node x) (node y) (λ e. omega (arith, h y (inl refl)))) (ordered-untwice (y ∷ R) o)
+
+-- there is one resolvent, and none where there is a tautology
+resolvent-once : (x : ℕ) (C D R S : List ℕ) → Resolvent x C D R → Resolvent x C D S → R ≡ S
+resolvent-once x C D R S p q =
+    rising-same R S (ordered-rising R (p .rising)) (ordered-rising S (q .rising)) (λ l i. q .all l (p .only l i)) (λ l i. p .all l (q .only l i))
+
+resolvent-tautology : (x : ℕ) (C D R : List ℕ) → Resolvent x C D R → Tautology x C D → ⊥
+resolvent-tautology x C D R p t =
+    neg-apart (t .at) (ordered-once R (p .rising) (opposite (t .at)) (t .at) (p .all (opposite (t .at)) (t .two)) (p .all (t .at) (t .one)) (node-neg (t .at)))
+
+module _ (x : ℕ) (C D : List ℕ) (oC : Ordered C) (oD : Ordered D) where
+  pub resolvent-exactly : (R : List ℕ) → (resolve x C D ≡ Some R) ↔ Resolvent x C D R
+  resolvent-exactly R = go (resolve x C D) (resolve-is x C D (ordered-rising C oC) (ordered-rising D oD))
+    where
+      go : (r : Option (List ℕ)) → Resolved x C D r → (r ≡ Some R) ↔ Resolvent x C D R
+      go None t = ((λ e. let z : _≡_ {A = ℕ} 0 1 = cc in absurd (omega arith)), λ p. absurd (resolvent-tautology x C D R p t))
+      go (Some S) p = ((λ e. let q : S ≡ R = cc in subst (Resolvent x C D) q p), λ q. ap Some (resolvent-once x C D S R p q))
+
+  pub tautology-exactly : (resolve x C D ≡ None) ↔ Tautology x C D
+  tautology-exactly = go (resolve x C D) (resolve-is x C D (ordered-rising C oC) (ordered-rising D oD))
+    where
+      go : (r : Option (List ℕ)) → Resolved x C D r → (r ≡ None) ↔ Tautology x C D
+      go None t = ((λ e. t), λ q. refl)
+      go (Some S) p = ((λ e. let z : _≡_ {A = ℕ} 0 1 = cc in absurd (omega arith)), λ t. absurd (resolvent-tautology x C D S p t))
+
+module _ (C D : List ℕ) (oC : Ordered C) (oD : Ordered D) where
+  -- where C strengthens D, the resolvent is D without the opposite literal
+  pub strengthened-resolvent : (l : ℕ) → Strengthens l C D → resolve l C D ≡ Some (without (opposite l) D)
+  strengthened-resolvent l s = go (resolve l C D) (resolve-is l C D (ordered-rising C oC) (ordered-rising D oD))
+    where
+      is : Resolvent l C D (without (opposite l) D)
+      is = record {
+        rising = ordered-kept (λ k. not (eqb k (opposite l))) D oD;
+        all = λ k h. ⊎-elim (λ (i, a). let (j, b) = s .rest k i a in in-without (opposite l) k D j b) (λ (i, a). in-without (opposite l) k D i a) h;
+        only = λ k i. inr (without-in (opposite l) k D i);
+      }
+
+      go : (r : Option (List ℕ)) → Resolved l C D r → r ≡ Some (without (opposite l) D)
+      go None t = absurd (resolvent-tautology l C D (without (opposite l) D) is t)
+      go (Some S) p = ap Some (resolvent-once l C D S (without (opposite l) D) p is)

@@ -79,10 +79,10 @@ abbrev second : Bool × Option ℕ → Option ℕ
 second r = r .1
 
 -- the two answers exclude one another, and there is one literal at most
-sub-not-but : (C D : List ℕ) (l : ℕ) → Ordered D → Subsumes C D → Strengthens l C D → ⊥
+pub sub-not-but : (C D : List ℕ) (l : ℕ) → Ordered D → Subsumes C D → Strengthens l C D → ⊥
 sub-not-but C D l o s b = grind (arith, signs, ordered-once D o (opposite l) l)
 
-but-one : (C D : List ℕ) (l m : ℕ) → Ordered D → Strengthens l C D → Strengthens m C D → l ≡ m
+pub but-one : (C D : List ℕ) (l m : ℕ) → Ordered D → Strengthens l C D → Strengthens m C D → l ≡ m
 but-one C D l m o b c = grind (arith, signs, cases-eq l m, ordered-once D o (opposite l) l)
 
 module _ (C D : List ℕ) (oC : Ordered C) (oD : Ordered D) where

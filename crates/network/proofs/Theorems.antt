@@ -1,19 +1,23 @@
 -- The theorems, put together. Assumes nothing.
 use mathlib.Core.Path.{_≡_, refl, sym, subst}
-use mathlib.Core.Bool.{Bool, true, false}
+use mathlib.Core.Bool.{Bool, true, false, not}
 use mathlib.Core.List.{List}
 use Prim.Native.Nat.{ℕ}
+use lib.Dec.{eqb}
 use Rattle.network.specs.Assignments.{Assignment, opposite, holds}
 use Rattle.network.specs.Clauses.{Ordered, without}
 use Rattle.network.specs.Resolution.{resolve, Resolved}
 use Rattle.network.specs.Subsumption.{Strengthens}
-use Rattle.network.specs.Theorems.{Basics, Rows-tell, Resolution, Definition-out, Fitting, Lose-both, Refine}
+use Rattle.network.specs.Theorems.{Basics, Rows-tell, Resolution, Definition-out, Fitting, Simplification, Signatures, Lose-both, Refine}
 use Rattle.network.proofs.Literals.{lit-neg}
-use Rattle.network.proofs.Ordered.{ordered-rising}
-use Rattle.network.proofs.Subsumption.{fits-exactly}
+use Rattle.network.proofs.Ordered.{ordered-rising, ordered-kept}
 use Rattle.network.proofs.Lists as c
 use Rattle.network.proofs.Holding as holding
 use Rattle.network.proofs.Resolution as r
+use Rattle.network.proofs.Fits as f
+use Rattle.network.proofs.Values as v
+use Rattle.network.proofs.Signature as g
+use Rattle.network.proofs.Spared as spared
 use Rattle.network.proofs.Rows as rows
 use Rattle.network.proofs.Sound as s
 use Rattle.network.proofs.Networks as nets
@@ -43,6 +47,8 @@ resolve-is x C D oC oD = r.resolve-is x C D (ordered-rising C oC) (ordered-risin
 pub resolution : Resolution
 resolution = record {
   is = resolve-is;
+  exact = λ x C D R oC oD. r.resolvent-exactly x C D oC oD R;
+  none = λ x C D oC oD. r.tautology-exactly x C D oC oD;
   sound = λ σ x C D R oC oD e p q. s.resolvent-holds σ x C D R (subst (Resolved x C D) e (resolve-is x C D oC oD)) (s.resolution σ x C D p q);
   says = λ σ x C D R oC oD e.
       let h = subst (Resolved x C D) e (resolve-is x C D oC oD) in
@@ -64,11 +70,29 @@ strengthens σ l C D b h = go (holds σ D) (holds σ (without (opposite l) D)) (
 
 pub fitting : Fitting
 fitting = record {
-  whole = λ C D oC oD. fits-exactly C D oC oD .0;
-  but = λ C D oC oD. fits-exactly C D oC oD .1;
+  whole = f.fits-sub;
+  but = f.fits-but;
+  neither = f.fits-none;
+  part = λ C D oC oD. (f.part-found D C, f.found-part D C (ordered-rising C oC) (ordered-rising D oD));
+  longer = λ C D h. (f.longer-unfit C D h, f.longer-no-part C D h);
   subsumes = λ σ C D h. holding.holds-more σ C D h;
   strengthens = strengthens;
+  dropped = λ x D k. (r.without-in x k D, λ (i, a). r.in-without x k D i a);
+  order = λ x D o. ordered-kept (λ l. not (eqb l x)) D o;
+  resolvent = r.strengthened-resolvent;
 }
+
+pub simplification : Simplification
+simplification = record {
+  keeps = v.simplified-holds;
+  gone = v.gone-exactly;
+  exact = λ V C R o. v.left-exactly V C o R;
+  order = v.simplified-ordered;
+  apart = v.simplified-untwice;
+}
+
+pub signatures : Signatures
+signatures = record { bits = g.bits-exactly; own = g.covers-own; part = spared.part-spared; fit = spared.fit-spared }
 
 pub lose-both : Lose-both
 lose-both own k x A C D nx f i j p q t = (s.pair-gives own k x A C D nx f i j p q t, s.pair-lost own k x A C D nx f i j p q t)

@@ -8,4 +8,5 @@ pub mod Resolution
 pub mod Subsumption
 pub mod Values
 pub mod Lemmas
+pub mod Signature
 pub mod Theorems

@@ -17,6 +17,13 @@ pub record Strengthens (l : ℕ) (C D : List ℕ) : Type 0 where
   pub there : In (opposite l) D
   pub rest : (k : ℕ) → In k C → (k ≡ l → ⊥) → In k D × (k ≡ opposite l → ⊥)
 
+-- whether the walk along both clauses finds each literal of C in D
+unfoldable pub part-of : List ℕ → List ℕ → Bool
+part-of [] [] = true
+part-of (c ∷ C) [] = false
+part-of [] (d ∷ D) = true
+part-of (c ∷ C) (d ∷ D) = cond (eqb c d) (part-of C D) (cond (ltb d c) (part-of (c ∷ C) D) false)
+
 -- an opposite literal at c: the first is noted, a second refused
 abbrev pub opposite-noted : ℕ → Option ℕ → (Option ℕ → Bool × Option ℕ) → Bool × Option ℕ
 opposite-noted c None rest = rest (Some c)
@@ -50,6 +57,6 @@ test-answer (true, None) = (true, None)
 test-answer (true, Some x) = (false, Some x)
 test-answer (false, o) = (false, None)
 
--- the test of C against D
+-- the test of C against D: (true, None) if C subsumes D, (false, Some l) if it strengthens D at l, else (false, None)
 unfoldable pub fits : List ℕ → List ℕ → Bool × Option ℕ
 fits C D = test-answer (fits-but-one C D)
