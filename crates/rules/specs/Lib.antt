@@ -1,0 +1,16 @@
+pub mod Store
+pub mod Work
+pub mod Const
+pub mod Bve
+pub mod Subsume
+pub mod Calls
+pub mod Lawful
+pub mod Turns
+pub mod Sizes
+pub mod Samples
+pub mod Runs
+pub mod Kept
+pub mod Held
+pub mod Index
+pub mod Good
+pub mod Theorem
