@@ -6,8 +6,23 @@ use source::*;
 use std::hint::black_box;
 
 unsafe extern "C" {
-    fn rattle_simp(c: *const u32, n: usize, v: *const u8, m: usize, out: *mut u32, k: usize) -> usize;
-    fn rattle_resolvent(a: *const u32, n: usize, b: *const u32, m: usize, pivot: u32, out: *mut u32, k: usize) -> usize;
+    fn rattle_simp(
+        c: *const u32,
+        n: usize,
+        v: *const u8,
+        m: usize,
+        out: *mut u32,
+        k: usize,
+    ) -> usize;
+    fn rattle_resolvent(
+        a: *const u32,
+        n: usize,
+        b: *const u32,
+        m: usize,
+        pivot: u32,
+        out: *mut u32,
+        k: usize,
+    ) -> usize;
     fn rattle_subsume(a: *const u32, n: usize, b: *const u32, m: usize) -> bool;
     fn rattle_except_one(a: *const u32, n: usize, b: *const u32, m: usize) -> u64;
     fn rattle_drop(c: *mut u32, n: usize, literal: u32) -> usize;
@@ -91,7 +106,10 @@ fn clause(g: &mut Rng, k: u64, span: u64) -> Vec<u32> {
 // A pair: unrelated, one with the other's literals, or so but for one sign; in a third of the cases each.
 fn pair(g: &mut Rng) -> (Vec<u32>, Vec<u32>) {
     let span = [14, 30, 120][g.below(3) as usize];
-    let b = { let k = 3 + g.below(8); clause(g, k, span) };
+    let b = {
+        let k = 3 + g.below(8);
+        clause(g, k, span)
+    };
     let kind = g.below(3);
     if kind == 0 {
         let k = 3 + g.below(8);
@@ -111,7 +129,9 @@ fn pair(g: &mut Rng) -> (Vec<u32>, Vec<u32>) {
 }
 
 fn lits(c: &[u32]) -> LitVec {
-    LitVec { lits: c.iter().map(|&l| Lit(l)).collect() }
+    LitVec {
+        lits: c.iter().map(|&l| Lit(l)).collect(),
+    }
 }
 
 // A pivot that the first has and its opposite the second: the first odd one out, or a new node.
@@ -138,7 +158,9 @@ fn main() {
             *v = g.below(2) as u8;
         }
     }
-    let assign = VarAssign { map: values.iter().map(|&v| Lbool(v)).collect() };
+    let assign = VarAssign {
+        map: values.iter().map(|&v| Lbool(v)).collect(),
+    };
     let mut total = 0u64;
     let mut add = |x: u64| total = total.wrapping_mul(31).wrapping_add(x);
     for _ in 0..2000 {
@@ -151,7 +173,16 @@ fn main() {
         match op {
             "simp" => {
                 if rattle {
-                    let n = unsafe { rattle_simp(a.as_ptr(), a.len(), values.as_ptr(), values.len(), out.as_mut_ptr(), 64) };
+                    let n = unsafe {
+                        rattle_simp(
+                            a.as_ptr(),
+                            a.len(),
+                            values.as_ptr(),
+                            values.len(),
+                            out.as_mut_ptr(),
+                            64,
+                        )
+                    };
                     add(n as u64);
                     if n < 1000 {
                         out[..n].iter().for_each(|&l| add(l as u64));
@@ -169,7 +200,17 @@ fn main() {
             "resolvent" => {
                 let (a, b, p) = pivoted(&mut g, &a, &b);
                 if rattle {
-                    let n = unsafe { rattle_resolvent(a.as_ptr(), a.len(), b.as_ptr(), b.len(), p, out.as_mut_ptr(), 64) };
+                    let n = unsafe {
+                        rattle_resolvent(
+                            a.as_ptr(),
+                            a.len(),
+                            b.as_ptr(),
+                            b.len(),
+                            p,
+                            out.as_mut_ptr(),
+                            64,
+                        )
+                    };
                     add(n as u64);
                     if n < 1000 {
                         out[..n].iter().for_each(|&l| add(l as u64));
@@ -186,8 +227,16 @@ fn main() {
                     }
                 }
             }
-            "subsume" => add(if rattle { unsafe { rattle_subsume(a.as_ptr(), a.len(), b.as_ptr(), b.len()) } } else { source_subsume(&la, &lb) } as u64),
-            "except_one" => add(if rattle { unsafe { rattle_except_one(a.as_ptr(), a.len(), b.as_ptr(), b.len()) } } else { source_except_one(&la, &lb) }),
+            "subsume" => add(if rattle {
+                unsafe { rattle_subsume(a.as_ptr(), a.len(), b.as_ptr(), b.len()) }
+            } else {
+                source_subsume(&la, &lb)
+            } as u64),
+            "except_one" => add(if rattle {
+                unsafe { rattle_except_one(a.as_ptr(), a.len(), b.as_ptr(), b.len()) }
+            } else {
+                source_except_one(&la, &lb)
+            }),
             "drop" => {
                 let literal = a[g.below(a.len() as u64) as usize];
                 if rattle {
@@ -210,10 +259,18 @@ fn main() {
                 add(low);
                 add(high);
             }
-            "may_subsume" => add(if rattle { unsafe { rattle_may_subsume(al, ah, bl, bh) } } else { source_may_subsume(sa, sb) } as u64),
+            "may_subsume" => add(if rattle {
+                unsafe { rattle_may_subsume(al, ah, bl, bh) }
+            } else {
+                source_may_subsume(sa, sb)
+            } as u64),
             "may_fit" => {
                 // the two tests differ: their answers are not compared
-                black_box(if rattle { unsafe { rattle_may_fit(al, ah, bl, bh) } } else { source_may_fit(sa, sb) });
+                black_box(if rattle {
+                    unsafe { rattle_may_fit(al, ah, bl, bh) }
+                } else {
+                    source_may_fit(sa, sb)
+                });
             }
             _ => panic!("no such operation"),
         }

@@ -72,7 +72,9 @@ impl Deref for LitVec {
 impl LitVec {
     #[inline]
     pub fn new_with_cap(c: usize) -> Self {
-        LitVec { lits: Vec::with_capacity(c) }
+        LitVec {
+            lits: Vec::with_capacity(c),
+        }
     }
 
     #[inline]
@@ -141,7 +143,11 @@ impl LitVec {
 
     #[inline]
     pub fn ordered_resolvent(&self, other: &LitVec, v: Var) -> Option<LitVec> {
-        let (x, y) = if self.len() < other.len() { (self, other) } else { (other, self) };
+        let (x, y) = if self.len() < other.len() {
+            (self, other)
+        } else {
+            (other, self)
+        };
         let mut new = LitVec::new_with_cap(self.len() + other.len());
         let (mut i, mut j) = (0, 0);
         while i < x.len() {
