@@ -1,0 +1,4 @@
+pub mod Writes
+pub mod Fewer
+pub mod Sorts
+pub mod Sweeps
