@@ -1,4 +1,5 @@
--- Refusals: a number from the table, and a place. 1 head, 2 cut, 3 order, 4 owner, 5 wide, 6 clash, 7 count, 8 stranger.
+-- Refusals: a number from the table, and a place. 1 head, 2 cut, 3 order, 4 owner, 5 wide, 6 clash, 7 count, 8 stranger,
+-- 9 room, 10 short.
 -- Assumes nothing.
 use mathlib.Core.Bool.{Bool, cond}
 use Prim.Native.Nat.{ℕ}

@@ -38,3 +38,7 @@ pub const CLASH: u32 = 6;
 pub const COUNT: u32 = 7;
 // A node to freeze is not in the image; place the number.
 pub const STRANGER: u32 = 8;
+// A room is odd, under 2 or over 4,096; place the room.
+pub const ROOM: u32 = 9;
+// A store is lent too few words; place the number it needs.
+pub const SHORT: u32 = 10;

@@ -1,0 +1,13 @@
+pub mod Laws
+pub mod Wholes
+pub mod Totals
+pub mod Fills
+pub mod Asks
+pub mod Frames
+pub mod Admits
+pub mod Joins
+pub mod Enters
+pub mod Removes
+pub mod Retires
+pub mod Offs
+pub mod Places
