@@ -66,7 +66,7 @@ pub fn check_clauses<T: ClauseTest>(
     test: &T,
     fault: Fault,
 ) -> Result<(), Fault>
-    ensures { result ≡ clauses_pass (pass test.now) fault node run.now }
+    ensures { result ≡ clauses_pass (T.pass test.now) fault node run.now }
 {
     let mut left = run;
     while let Some((clause, after)) = next_clause(left, node)? {

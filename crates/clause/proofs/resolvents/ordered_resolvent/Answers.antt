@@ -26,11 +26,11 @@ loop-i-preserved-then-d-y c =
     let y = c.opposite.result.word in
     (omega arith, omega arith, omega arith, sofar_same v.invariant.3 (after v.last (left x y a b v.i (v.j + 1))) (ap (after v.last) (skip_right x y a b v.i v.j (omega arith) c.if-d-y.true)))
 
-pub overflow-add-i-then-c-d : goal.overflow-add-i-then-c-d
-overflow-add-i-then-c-d c = omega arith
+pub overflow_add-i-then-c-d : goal.overflow_add-i-then-c-d
+overflow_add-i-then-c-d c = omega arith
 
-pub overflow-add-i-else-d-c : goal.overflow-add-i-else-d-c
-overflow-add-i-else-d-c c = omega arith
+pub overflow_add-i-else-d-c : goal.overflow_add-i-else-d-c
+overflow_add-i-else-d-c c = omega arith
 
 -- what one turn takes
 turn : (c : Joined-c-d) → Turn c.args.pivot.word c.opposite.result.word c.args.a.now c.args.b.now c.loop-i.i c.loop-i.j c.if-c-d.l c.if-c-d.i c.if-c-d.j
@@ -43,11 +43,11 @@ turn c =
     let j = c.loop-i.j in
     elim c.if-c-d.branch [
       | then-c-d w ↦
-          turned _ _ _ w.l-is w.i-is w.j-is (take_left x y a b i j (omega arith) (omega arith) c.if-c-x.false c.if-d-y.false (λ e. omega (arith, c.type-inv.a i)) w.if-c-d.true)
+          turned _ _ _ w.l-is w.i-is w.j-is (take_left x y a b i j (omega arith) (omega arith) c.if-c-x.false c.if-d-y.false (λ e. omega (arith, c.ok.a i)) w.if-c-d.true)
       | else-c-d+then-d-c w ↦
-          turned _ _ _ w.l-is w.i-is w.j-is (take_right x y a b i j (omega arith) (omega arith) c.if-c-x.false c.if-d-y.false (λ e. omega (arith, c.type-inv.b j)) w.if-d-c.true)
+          turned _ _ _ w.l-is w.i-is w.j-is (take_right x y a b i j (omega arith) (omega arith) c.if-c-x.false c.if-d-y.false (λ e. omega (arith, c.ok.b j)) w.if-d-c.true)
       | else-c-d+else-d-c w ↦
-          turned _ _ _ w.l-is w.i-is w.j-is (take_both x y a b i j (omega arith) (omega arith) c.if-c-x.false c.if-d-y.false (λ e. omega (arith, c.type-inv.a i)) (omega (arith, w.if-c-d.false, w.if-d-c.false)))
+          turned _ _ _ w.l-is w.i-is w.j-is (take_both x y a b i j (omega arith) (omega arith) c.if-c-x.false c.if-d-y.false (λ e. omega (arith, c.ok.a i)) (omega (arith, w.if-c-d.false, w.if-d-c.false)))
     ]
 
 pub returns-then-l-last : goal.returns-then-l-last
@@ -84,7 +84,7 @@ returns-then-i-a c =
     let over : length b ≤ v.j = elim c.loop-i-test.branch [ then-loop-i-test+else-j-b w ↦ omega (arith, w.if-j-b.false) | else-loop-i-test w ↦ omega (arith, w.loop-i-test.false) ] in
     room_enough (omega arith)
     (sofar_copied (sofar_of v.invariant.3 (resolve x a b) (resolve_left x y a b c.opposite.ensures)) (length a + length b) (v.n + (length a - v.i)) (after v.last (without x (drop v.i a)))
-    c.copy-rest.new.out c.copy-rest.result (omega arith) (omega arith) (ap (after v.last) (left_over x y a b v.i v.j over)) c.copy-rest.ensures)
+    c.copy_rest.new.out c.copy_rest.result (omega arith) (omega arith) (ap (after v.last) (left_over x y a b v.i v.j over)) c.copy_rest.ensures)
 
 pub returns : goal.returns
 returns c =
@@ -95,4 +95,4 @@ returns c =
     let v = c.loop-i in
     room_enough (omega arith)
     (sofar_copied (sofar_of v.invariant.3 (resolve x a b) (resolve_left x y a b c.opposite.ensures)) (length a + length b) (v.n + (length b - v.j)) (after v.last (without y (drop v.j b)))
-    c.copy-rest-2.new.out c.copy-rest-2.result (omega arith) (omega arith) (ap (after v.last) (right_over x y a b v.i v.j (omega arith))) c.copy-rest-2.ensures)
+    c.copy_rest-2.new.out c.copy_rest-2.result (omega arith) (omega arith) (ap (after v.last) (right_over x y a b v.i v.j (omega arith))) c.copy_rest-2.ensures)

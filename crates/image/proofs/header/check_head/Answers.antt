@@ -4,8 +4,8 @@ use Rattle.std.proofs.lemmas.Bool.{both_ways}
 use Rattle.image.proofs.Heads.{climbs_none, climbs_on, climbs_stop, head_refused, head_opened}
 use Rattle.image.proofs.header.check_head.Goals as goal
 
-pub returns-in-default : goal.returns-in-default
-returns-in-default c = head_refused c.args.words.now (λ h. search rules)
+pub returns-in_default : goal.returns-in_default
+returns-in_default c = head_refused c.args.words.now (λ h. search rules)
 
 pub loop-k-init : goal.loop-k-init
 loop-k-init c = climbs_none _

@@ -11,4 +11,4 @@ pub returns-in-empty : goal.returns-in-empty
 returns-in-empty c = nil_from_length _ (search rules)
 
 pub returns-else-len-rest : goal.returns-else-len-rest
-returns-else-len-rest c = front_at c.args.left.now _ _ _ (search rules) refl (omega arith) (omega arith) c.split-at.ensures.front c.split-at.ensures.back
+returns-else-len-rest c = front_at c.args.left.now _ _ _ (search rules) refl (omega arith) (omega arith) c.split_at.ensures.front c.split_at.ensures.back

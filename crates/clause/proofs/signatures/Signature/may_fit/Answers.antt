@@ -5,11 +5,11 @@ use Rattle.network.specs.Signature.{missing}
 use Rattle.clause.proofs.Signs.{spares_fit, one_bit, one_bit_round, first_none, second_none, both_some}
 use Rattle.clause.proofs.signatures.Signature.may_fit.Goals as goal
 
-pub overflow-sub-low : goal.overflow-sub-low
-overflow-sub-low c = and_le_l c.args.self.low c.args.other.low
+pub overflow_sub-low : goal.overflow_sub-low
+overflow_sub-low c = and_le_l c.args.self.low c.args.other.low
 
-pub overflow-sub-high : goal.overflow-sub-high
-overflow-sub-high c = and_le_l c.args.self.high c.args.other.high
+pub overflow_sub-high : goal.overflow_sub-high
+overflow_sub-high c = and_le_l c.args.self.high c.args.other.high
 
 pub returns-then-low-eq0 : goal.returns-then-low-eq0
 returns-then-low-eq0 c =

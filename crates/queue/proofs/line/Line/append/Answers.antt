@@ -5,8 +5,8 @@ use Rattle.queue.proofs.Index.{words_push, placed_push, placed_words}
 use Rattle.queue.proofs.line.Line.append.Goals as goal
 
 -- the entries with the new one are different words of 32 bits, so they are 2 ^ 32 at most
-pub overflow-cast-self : goal.overflow-cast-self
-overflow-cast-self c =
+pub overflow_cast-self : goal.overflow_cast-self
+overflow_cast-self c =
     let l = c.args.self.now in
     let xs = take l.len l.entries.now in
     let x = c.args.entry in
