@@ -4,6 +4,8 @@
 // subsumption, strengthening, the loss of a literal, and signatures with the two tests that spare a walk. Promises: each answer, and
 // each word that is written, is what the definition of the crate `network` gives, on any slices; no public function requires anything.
 // Rests on the definitions and laws of `network`, which say what the answers mean for clauses in order.
+#![tactic(auto)]
+
 mod literals;
 mod resolvents;
 mod signatures;

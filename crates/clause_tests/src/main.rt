@@ -3,6 +3,8 @@
 // signatures with their tests. The program asks `clause`, and writes how many there were of each kind, how many answers differ, and the first that does.
 //
 // Promises that it is safe and ends. Rests on `clause`.
+#![tactic(auto)]
+
 mod asked;
 mod table;
 

@@ -3,6 +3,8 @@
 // Holds the fault, the header of an image, the reader of a node's run, and the tests of its clauses: cut, order, owner, wide.
 // Promises: each function answers exactly its definition in specs/, on any words at all; nothing wraps, and nothing is asked
 // of a caller. Rests on `network`.
+#![tactic(auto)]
+
 pub mod fault;
 pub mod header;
 pub mod lower;

@@ -2,5 +2,7 @@
 //
 // Holds the way from bytes to an intake. Promises: any bytes give the intake that the definitions in specs/ say, or the one
 // refusal that they say; a refusal leaves the intake as it was. Rests on `network`, `image` and `intake`.
+#![tactic(auto)]
+
 pub mod bytes;
 pub mod opening;

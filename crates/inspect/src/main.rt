@@ -1,5 +1,7 @@
 // Looks at an image: reads an input of little-endian words, takes its image in, freezes its nodes, and prints what it opened,
 // or the one line of a refusal. The work is in `input` and `intake`; what is printed here is run, and not proved.
+#![tactic(auto)]
+
 mod text;
 
 use crate::text::print_network;

@@ -1,5 +1,7 @@
 // Tests of the intake at its edges: the header, the runs, the rows, `froze`, and what a refusal leaves. Rests on `intake` and
 // `input`; each test is proved safe and then run.
+#![tactic(auto)]
+
 #[cfg(test)]
 mod tests {
     use image::fault::Fault;

@@ -6,6 +6,8 @@
 // requires anything.
 //
 // Rests on `network` for the definition, on `clause` for the test of two clauses and the loss of a literal, and on `queue` for the order.
+#![tactic(auto)]
+
 mod simplify;
 mod sort;
 mod turns;

@@ -1,4 +1,6 @@
 // Tests of the queue and of the simplification of resolvents, run on small cases. Rests on `queue` and `lemmas`.
+#![tactic(auto)]
+
 #[cfg(test)]
 mod tests {
     use lemmas::lemmas_subsume_simplify;

@@ -4,6 +4,8 @@
 // subsumption, strengthening, simplification under known values and the removal of a node by its definition are sound and exact,
 // the rows of a node tell what values are left, and signatures tell what they are asked, as the laws say.
 // Rests on nothing but the standard library.
+#![tactic(auto)]
+
 ghost use Rattle.network.specs.Theorems.{Basics, RowsTell, Resolution, DefinitionOut, Fitting, Simplification, Signatures, LoseBoth, Refine};
 
 // The laws of clauses and networks stand.

@@ -10,6 +10,8 @@
 // stays one under each call. After an entry's standing has changed, `changed` makes a heap again.
 //
 // Rests on nothing but std.
+#![tactic(auto)]
+
 mod heap;
 mod line;
 mod order;

@@ -1,5 +1,7 @@
 // Replays inputs whose answers the reference gave: a line of standard input has the words of one input, in base ten. For each
 // it prints the refusal, or `opened` with the lowest loose node. The recorded answers are the expected output.
+#![tactic(auto)]
+
 use input::opening::open_input;
 use intake::state::Intake;
 use std::alloc::Global;

@@ -5,6 +5,8 @@
 // below a number of heads are heads; the others are slots, and a slot in no ring is linked to itself.
 // Promises: each function writes and answers exactly what its definition says, on any words at all, and asks nothing of a
 // caller; where rings stand, each changes the lists as the laws say. Rests on nothing but the standard library.
+#![tactic(auto)]
+
 ghost use Rattle.std.specs.Prelude.{◌≡◌, ℕ, ◌+◌, ◌*◌, ◌<◌, ◌≤◌, List, length};
 ghost use Rattle.rings.specs.Laws.{RingLaws};
 ghost use Rattle.rings.specs.Rings.{cut_out, knotted, put_in, scattered, shifted, slot_after, swapped_out};

@@ -4,6 +4,8 @@
 // Promises, of any image that take-in accepts, any nodes frozen, any store and any list of calls: the network handed out admits
 // a setting of the frozen nodes exactly if the network taken in does; a node taken out is named no more; no entry is refused.
 // Rests on `network` (clauses, networks, settings), `image` (words and runs) and `intake` (what take-in accepts).
+#![tactic(auto)]
+
 ghost use Rattle.rules.specs.Lawful.{ChangesLawful, PassesLawful};
 ghost use Rattle.rules.specs.Runs.{PassesApart, SampleRuns};
 ghost use Rattle.rules.specs.Samples.{Samples};

@@ -4,6 +4,8 @@
 // a store's room and words; and small functions over any store. Promises: the check refuses exactly as its definition says; a
 // walk by handles finds each clause once. No method asks anything of a caller: what is said of a handle holds while it stands.
 // Rests on `network` (clauses), `image` (faults) and `rules` (the meaning).
+#![tactic(auto)]
+
 pub mod check;
 pub mod places;
 pub mod store;

@@ -14,7 +14,7 @@ returns-then-l-last c =
     let v = c.loop-k in
     let l = get_or src v.k 0 in
     sofar_fails v.invariant.1 (c.args.at + (length src - c.args.from)) (omega arith)
-    (ap (after v.last) (without_kept x src v.k (omega arith) c.if-l-literal.true) ∙ after_twice v.last l (without x (drop (v.k + 1) src)) (λ e. omega (arith, c.ok.src v.k)) c.if-l-last.true)
+    (ap (after v.last) (without_kept x src v.k (omega arith) c.if-l-literal.true) ∙ after_twice v.last l (without x (drop (v.k + 1) src)) (λ e. omega (arith, c.type_inv.src v.k)) c.if-l-last.true)
 
 pub loop-k-preserved : goal.loop-k-preserved
 loop-k-preserved c =
@@ -28,7 +28,7 @@ loop-k-preserved c =
         omega (arith, w.n-is),
         rw (w.last-is, w.out-is, w.n-is)
             (sofar_more v.invariant.1 (after (node l) rest) l (omega arith)
-            (ap (after v.last) (without_kept x src v.k (omega arith) w.if-l-literal.true) ∙ after_kept v.last l rest (λ e. omega (arith, c.ok.src v.k)) w.if-l-last.false)),
+            (ap (after v.last) (without_kept x src v.k (omega arith) w.if-l-literal.true) ∙ after_kept v.last l rest (λ e. omega (arith, c.type_inv.src v.k)) w.if-l-last.false)),
       )
       | else-l-literal w ↦ (
         omega (arith, w.n-is),

@@ -43,11 +43,11 @@ turn c =
     let j = c.loop-i.j in
     elim c.if-c-d.branch [
       | then-c-d w ↦
-          turned _ _ _ w.l-is w.i-is w.j-is (take_left x y a b i j (omega arith) (omega arith) c.if-c-x.false c.if-d-y.false (λ e. omega (arith, c.ok.a i)) w.if-c-d.true)
+          turned _ _ _ w.l-is w.i-is w.j-is (take_left x y a b i j (omega arith) (omega arith) c.if-c-x.false c.if-d-y.false (λ e. omega (arith, c.type_inv.a i)) w.if-c-d.true)
       | else-c-d+then-d-c w ↦
-          turned _ _ _ w.l-is w.i-is w.j-is (take_right x y a b i j (omega arith) (omega arith) c.if-c-x.false c.if-d-y.false (λ e. omega (arith, c.ok.b j)) w.if-d-c.true)
+          turned _ _ _ w.l-is w.i-is w.j-is (take_right x y a b i j (omega arith) (omega arith) c.if-c-x.false c.if-d-y.false (λ e. omega (arith, c.type_inv.b j)) w.if-d-c.true)
       | else-c-d+else-d-c w ↦
-          turned _ _ _ w.l-is w.i-is w.j-is (take_both x y a b i j (omega arith) (omega arith) c.if-c-x.false c.if-d-y.false (λ e. omega (arith, c.ok.a i)) (omega (arith, w.if-c-d.false, w.if-d-c.false)))
+          turned _ _ _ w.l-is w.i-is w.j-is (take_both x y a b i j (omega arith) (omega arith) c.if-c-x.false c.if-d-y.false (λ e. omega (arith, c.type_inv.a i)) (omega (arith, w.if-c-d.false, w.if-d-c.false)))
     ]
 
 pub returns-then-l-last : goal.returns-then-l-last

@@ -14,24 +14,24 @@ use Rattle.intake.proofs.check.check_image.Goals as goal
 answered : (ws : List ℕ) (r : Result (Unit {0}) Fault) → r ≡ take_in_answer ws → record { answer : r ≡ take_in_answer ws; means : Answers ws r; only : (s : Result (Unit {0}) Fault) → Answers ws s → r ≡ s }
 answered ws r e = record { answer = e; means = subst (Answers ws) (sym e) (answer_means ws); only = λ s a. e ∙ (exactly ws s).1 a }
 
-pub check-nodes-requires : goal.check-nodes-requires
-check-nodes-requires c = let p = head_came c.args.words.now _ c.in-ok-top.ensures in record { head = p.0; all = p.1 }
+pub check_nodes-requires : goal.check_nodes-requires
+check_nodes-requires c = let p = head_came c.args.words.now _ c.in_ok-top.ensures in record { head = p.0; all = p.1 }
 
-pub returns-in-err-top : goal.returns-in-err-top
-returns-in-err-top c =
-    let p = err_from_is_err_and c.from-residual.result c.from-residual.ensures.1 in
-    answered _ _ (p.1 ∙ ap Err p.2 ∙ answer_head c.args.words.now _ c.in-err-top.ensures)
+pub returns-in_err-top : goal.returns-in_err-top
+returns-in_err-top c =
+    let p = err_from_is_err_and c.from_residual.result c.from_residual.ensures.1 in
+    answered _ _ (p.1 ∙ ap Err p.2 ∙ answer_head c.args.words.now _ c.in_err-top.ensures)
 
-pub returns-in-err-count : goal.returns-in-err-count
-returns-in-err-count c =
-    let p = err_from_is_err_and c.from-residual-in-err-count.result c.from-residual-in-err-count.ensures.1 in
-    answered _ _ (p.1 ∙ ap Err p.2 ∙ answer_nodes c.args.words.now _ _ c.in-ok-top.ensures c.in-err-count.ensures)
+pub returns-in_err-count : goal.returns-in_err-count
+returns-in_err-count c =
+    let p = err_from_is_err_and c.from_residual-in_err-count.result c.from_residual-in_err-count.ensures.1 in
+    answered _ _ (p.1 ∙ ap Err p.2 ∙ answer_nodes c.args.words.now _ _ c.in_ok-top.ensures c.in_err-count.ensures)
 
 pub bounds-words-1 : goal.bounds-words-1
-bounds-words-1 c = let p = head_came c.args.words.now _ c.in-ok-top.ensures in let h = head_from _ p.0 in omega (arith, h.three)
+bounds-words-1 c = let p = head_came c.args.words.now _ c.in_ok-top.ensures in let h = head_from _ p.0 in omega (arith, h.three)
 
 pub returns-then-words-count : goal.returns-then-words-count
-returns-then-words-count c = answered _ _ (answer_count c.args.words.now _ _ c.in-ok-top.ensures c.in-ok-count.ensures c.if-words-count.true)
+returns-then-words-count c = answered _ _ (answer_count c.args.words.now _ _ c.in_ok-top.ensures c.in_ok-count.ensures c.if-words-count.true)
 
 pub returns : goal.returns
-returns c = answered _ _ (answer_open c.args.words.now _ _ c.in-ok-top.ensures c.in-ok-count.ensures c.if-words-count.false)
+returns c = answered _ _ (answer_open c.args.words.now _ _ c.in_ok-top.ensures c.in_ok-count.ensures c.if-words-count.false)

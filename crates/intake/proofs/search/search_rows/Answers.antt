@@ -14,7 +14,7 @@ rows-init c = let p = rows_none c.args.low.now c.args.node c.args.run.now in (re
 
 pub loop-clause-preserved : goal.loop-clause-preserved
 loop-clause-preserved c =
-    let f = MatchOption-at_some _ _ _ c.in-Some.is c.in-ok-clause.ensures in
+    let f = MatchOption-at_some _ _ _ c.in-Some.is c.in_ok-clause.ensures in
     let i = c.loop-clause.invariant in
     let off : c.if-off.off ≡ (c.loop-clause.off && holds (put (row c.args.low.now c.rows.row) c.args.node false) c.in-Some.clause.now) = grind arith in
     let on : c.if-on.on ≡ (c.loop-clause.on && holds (put (row c.args.low.now c.rows.row) c.args.node true) c.in-Some.clause.now) = grind arith in
@@ -23,7 +23,7 @@ loop-clause-preserved c =
 pub rows-preserved : goal.rows-preserved
 rows-preserved c =
     let i = c.loop-clause.invariant in
-    let e = MatchOption-at_none _ _ c.in-default.is c.in-ok-clause.ensures in
+    let e = MatchOption-at_none _ _ c.in_default.is c.in_ok-clause.ensures in
     let more : c.if-loose.loose ≡ (c.rows.loose || (c.loop-clause.off && c.loop-clause.on)) = grind arith in
     let p = rows_on c.args.low.now c.args.node c.args.run.now _ c.rows.row _ _ i.2 i.3 _ _ e i.4 (c.rows.invariant.1, c.rows.invariant.2) more in
     (i.0, p.0, p.1)
@@ -33,7 +33,7 @@ returns-then-clash c =
     elim c.rows-test.branch [
       | else-rows-test w ↦ absurd (both_ways c.rows-test.clash (w.clash-is ∙ c.rows.invariant.0) c.if-clash.true)
       | then-rows-test+in-ok-clause+in-Some+then-not-off+then-not-on w ↦
-          let f = MatchOption-at_some _ _ _ w.in-Some.is w.in-ok-clause.ensures in
+          let f = MatchOption-at_some _ _ _ w.in-Some.is w.in_ok-clause.ensures in
           let i = w.loop-clause.invariant in
           let off : w.if-off.off ≡ (w.loop-clause.off && holds (put (row c.args.low.now c.rows.row) c.args.node false) w.in-Some.clause.now) = grind arith in
           let on : w.if-on.on ≡ (w.loop-clause.on && holds (put (row c.args.low.now c.rows.row) c.args.node true) w.in-Some.clause.now) = grind arith in
@@ -48,5 +48,5 @@ returns c =
       | then-rows-test+in-ok-clause+in-Some+then-not-off+then-not-on w ↦ absurd (both_ways c.rows-test.clash c.if-clash.false w.clash-is)
     ]
 
-pub returns-in-err-clause : goal.returns-in-err-clause
-returns-in-err-clause c = absurd (both_ways _ (cut_whole _ c.in-err-clause.ensures.1) c.loop-clause.invariant.1)
+pub returns-in_err-clause : goal.returns-in_err-clause
+returns-in_err-clause c = absurd (both_ways _ (cut_whole _ c.in_err-clause.ensures.1) c.loop-clause.invariant.1)

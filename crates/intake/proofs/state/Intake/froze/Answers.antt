@@ -9,5 +9,5 @@ still (b ∷ fs) (suc n) h = h
 pub bounds-self-node : goal.bounds-self-node
 bounds-self-node c = omega (arith, c.top.ensures.small)
 
-pub invariant-of-self : goal.invariant-of-self
-invariant-of-self c = (c.args.self.now.right, (still c.args.self.now.frozen c.args.node c.args.self.now.zero, tt))
+pub invariant_of-self : goal.invariant_of-self
+invariant_of-self c = (c.args.self.now.right, (still c.args.self.now.frozen c.args.node c.args.self.now.zero, tt))

@@ -10,11 +10,11 @@ loop-k-init c = c.new-nodes.ensures.items ∙ sym (loose_none _ _)
 
 pub loop-k-preserved : goal.loop-k-preserved
 loop-k-preserved c =
-    elim c.if-is-loose.branch [
+    elim c.if-is_loose.branch [
       | then-is-loose+in-ok-push w ↦
-          ap vec_items w.nodes-is ∙ w.in-ok-push.ensures.items ∙ ap (λ xs. xs ++ ((c.loop-k.k + 1) ∷ [])) c.loop-k.invariant
-          ∙ sym (loose_yes c.args.self.now.image.now c.args.self.now.frozen c.loop-k.k (sym c.is-loose.ensures ∙ w.if-is-loose.true))
-      | else-is-loose w ↦ ap vec_items w.nodes-is ∙ c.loop-k.invariant ∙ sym (loose_no c.args.self.now.image.now c.args.self.now.frozen c.loop-k.k (sym c.is-loose.ensures ∙ w.if-is-loose.false))
+          ap vec_items w.nodes-is ∙ w.in_ok-push.ensures.items ∙ ap (λ xs. xs ++ ((c.loop-k.k + 1) ∷ [])) c.loop-k.invariant
+          ∙ sym (loose_yes c.args.self.now.image.now c.args.self.now.frozen c.loop-k.k (sym c.is_loose.ensures ∙ w.if-is_loose.true))
+      | else-is-loose w ↦ ap vec_items w.nodes-is ∙ c.loop-k.invariant ∙ sym (loose_no c.args.self.now.image.now c.args.self.now.frozen c.loop-k.k (sym c.is_loose.ensures ∙ w.if-is_loose.false))
     ]
 
 pub returns : goal.returns
