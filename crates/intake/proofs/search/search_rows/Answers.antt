@@ -7,7 +7,7 @@ use Rattle.network.specs.Assignments.{put, holds}
 use Rattle.network.specs.Rows.{row}
 use Rattle.intake.proofs.Searching.{so_far_on, so_far_none, rows_none, rows_on, rows_stop, rows_count, searched_clash, searched_done}
 use Rattle.intake.proofs.search.search_rows.Goals as goal
-use Rattle.intake.proofs.search.search_rows.Goals.{else-rows-test, then-rows-test+in-ok-clause+in-Some+then-not-off+then-not-on}
+use Rattle.intake.proofs.search.search_rows.Goals.{else-rows-test, then-rows-test+in_ok-clause+in-Some+then-not-off+then-not-on}
 
 pub rows-init : goal.rows-init
 rows-init c = let p = rows_none c.args.low.now c.args.node c.args.run.now in (refl, p.0, p.1)
@@ -32,7 +32,7 @@ pub returns-then-clash : goal.returns-then-clash
 returns-then-clash c =
     elim c.rows-test.branch [
       | else-rows-test w ↦ absurd (both_ways c.rows-test.clash (w.clash-is ∙ c.rows.invariant.0) c.if-clash.true)
-      | then-rows-test+in-ok-clause+in-Some+then-not-off+then-not-on w ↦
+      | then-rows-test+in_ok-clause+in-Some+then-not-off+then-not-on w ↦
           let f = MatchOption-at_some _ _ _ w.in-Some.is w.in_ok-clause.ensures in
           let i = w.loop-clause.invariant in
           let off : w.if-off.off ≡ (w.loop-clause.off && holds (put (row c.args.low.now c.rows.row) c.args.node false) w.in-Some.clause.now) = grind arith in
@@ -45,7 +45,7 @@ pub returns : goal.returns
 returns c =
     elim c.rows-test.branch [
       | else-rows-test w ↦ searched_done c.args.low.now c.args.node c.args.run.now c.rows.row c.rows.loose (omega (arith, rows_count (length c.args.low.now) c.requires.few)) (c.rows.invariant.1, c.rows.invariant.2)
-      | then-rows-test+in-ok-clause+in-Some+then-not-off+then-not-on w ↦ absurd (both_ways c.rows-test.clash c.if-clash.false w.clash-is)
+      | then-rows-test+in_ok-clause+in-Some+then-not-off+then-not-on w ↦ absurd (both_ways c.rows-test.clash c.if-clash.false w.clash-is)
     ]
 
 pub returns-in_err-clause : goal.returns-in_err-clause

@@ -10,4 +10,4 @@ pub bounds-self-node : goal.bounds-self-node
 bounds-self-node c = omega (arith, c.top.ensures.small)
 
 pub invariant_of-self : goal.invariant_of-self
-invariant_of-self c = (c.args.self.now.right, (still c.args.self.now.frozen c.args.node c.args.self.now.zero, tt))
+invariant_of-self c = record { right = c.args.self.now.right; zero = still c.args.self.now.frozen c.args.node c.args.self.now.zero }

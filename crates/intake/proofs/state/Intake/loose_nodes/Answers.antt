@@ -3,7 +3,7 @@ use Rattle.image.specs.Headers.{top}
 use Rattle.intake.specs.Answers.{loose_nodes}
 use Rattle.intake.proofs.LooseNodes.{loose_none, loose_yes, loose_no}
 use Rattle.intake.proofs.state.Intake.loose_nodes.Goals as goal
-use Rattle.intake.proofs.state.Intake.loose_nodes.Goals.{then-is-loose+in-ok-push, else-is-loose}
+use Rattle.intake.proofs.state.Intake.loose_nodes.Goals.{then-is_loose+in_ok-push, else-is_loose}
 
 pub loop-k-init : goal.loop-k-init
 loop-k-init c = c.new-nodes.ensures.items ∙ sym (loose_none _ _)
@@ -11,10 +11,10 @@ loop-k-init c = c.new-nodes.ensures.items ∙ sym (loose_none _ _)
 pub loop-k-preserved : goal.loop-k-preserved
 loop-k-preserved c =
     elim c.if-is_loose.branch [
-      | then-is-loose+in-ok-push w ↦
+      | then-is_loose+in_ok-push w ↦
           ap vec_items w.nodes-is ∙ w.in_ok-push.ensures.items ∙ ap (λ xs. xs ++ ((c.loop-k.k + 1) ∷ [])) c.loop-k.invariant
           ∙ sym (loose_yes c.args.self.now.image.now c.args.self.now.frozen c.loop-k.k (sym c.is_loose.ensures ∙ w.if-is_loose.true))
-      | else-is-loose w ↦ ap vec_items w.nodes-is ∙ c.loop-k.invariant ∙ sym (loose_no c.args.self.now.image.now c.args.self.now.frozen c.loop-k.k (sym c.is_loose.ensures ∙ w.if-is_loose.false))
+      | else-is_loose w ↦ ap vec_items w.nodes-is ∙ c.loop-k.invariant ∙ sym (loose_no c.args.self.now.image.now c.args.self.now.frozen c.loop-k.k (sym c.is_loose.ensures ∙ w.if-is_loose.false))
     ]
 
 pub returns : goal.returns

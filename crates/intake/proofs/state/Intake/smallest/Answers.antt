@@ -5,4 +5,4 @@ use Rattle.intake.proofs.state.Intake.smallest.Goals as goal
 
 pub invariant_of-result : goal.invariant_of-result
 unfolding accepts take_in_answer headed climbs nodes_answer
-invariant_of-result c = (refl, (refl, tt))
+invariant_of-result c = record { right = refl; zero = refl }
