@@ -7,16 +7,16 @@ use Rattle.input.proofs.opening.freeze_all.Goals as goal
 pub loop-n-preserved : goal.loop-n-preserved
 loop-n-preserved c =
     let i = c.loop-n.invariant in
-    let s = c.in-ok-froze.ensures.state in
-    let a = c.in-ok-froze.ensures.answer in
+    let s = c.in_ok-froze.ensures.state in
+    let a = c.in_ok-froze.ensures.answer in
     (s.0 ∙ i.0, freeze_on c.args.into.now.image.now c.args.nodes.now c.loop-n.n-index (omega arith) i.1 _ (a ∙ ap (λ z. froze_answer z.now (get_or c.args.nodes.now c.loop-n.n-index 0)) i.0), freezes_on _ _ _ c.args.nodes.now c.loop-n.n-index (omega arith) s.1 i.2)
 
-pub returns-in-err-froze : goal.returns-in-err-froze
-returns-in-err-froze c =
+pub returns-in_err-froze : goal.returns-in_err-froze
+returns-in_err-froze c =
     let i = c.loop-n.invariant in
-    let p = err_from_is_err_and c.from-residual.result c.from-residual.ensures.1 in
-    let s = c.in-err-froze.ensures.state in
-    let a = c.in-err-froze.ensures.answer in
+    let p = err_from_is_err_and c.from_residual.result c.from_residual.ensures.1 in
+    let s = c.in_err-froze.ensures.state in
+    let a = c.in_err-froze.ensures.answer in
     rw (p.1, p.2) (record { answer = freeze_stop c.args.into.now.image.now c.args.nodes.now c.loop-n.n-index (omega arith) i.1 _ (a ∙ ap (λ z. froze_answer z.now (get_or c.args.nodes.now c.loop-n.n-index 0)) i.0); image = ap (λ x. x.image) s ∙ i.0; frozen = tt })
 
 pub returns : goal.returns

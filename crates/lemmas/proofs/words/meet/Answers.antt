@@ -12,8 +12,8 @@ returns-then-lengths-first c =
     let a = c.args.first in
     let b = c.args.later in
     let x = c.in-Some.literal.word in
-    let q = c.ordered-subsume-execpt-one-part in
-    let at : fits (lemma_at L W a) (lemma_at L W b) ≡ (false, Some x) = fits_at q.result c.in-Some.literal (lemma_at L W a) (lemma_at L W b) c.literals-of-a.result.now c.literals-of-b.result.now q.ensures c.if-part.false c.in-Some.is c.literals-of-a.ensures c.literals-of-b.ensures in
+    let q = c.ordered_subsume_execpt_one-part in
+    let at : fits (lemma_at L W a) (lemma_at L W b) ≡ (false, Some x) = fits_at q.result c.in-Some.literal (lemma_at L W a) (lemma_at L W b) c.literals_of-a.result.now c.literals_of-b.result.now q.ensures c.if-part.false c.in-Some.is c.literals_of-a.ensures c.literals_of-b.ensures in
     record {
       wrote = wrote_weaker (λ k e. inl e) c.lose.ensures.wrote;
       met = both_one L W c.lose.new.lengths c.lose.new.literals a b x c.requires.first c.requires.later at c.if-lengths-first.true c.lose.ensures.lost;
@@ -26,9 +26,9 @@ returns c =
     let a = c.args.first in
     let b = c.args.later in
     let x = c.in-Some.literal.word in
-    let q = c.ordered-subsume-execpt-one-part in
+    let q = c.ordered_subsume_execpt_one-part in
     let l = c.lose-2 in
-    let at : fits (lemma_at L W a) (lemma_at L W b) ≡ (false, Some x) = fits_at q.result c.in-Some.literal (lemma_at L W a) (lemma_at L W b) c.literals-of-a.result.now c.literals-of-b.result.now q.ensures c.if-part.false c.in-Some.is c.literals-of-a.ensures c.literals-of-b.ensures in
+    let at : fits (lemma_at L W a) (lemma_at L W b) ≡ (false, Some x) = fits_at q.result c.in-Some.literal (lemma_at L W a) (lemma_at L W b) c.literals_of-a.result.now c.literals_of-b.result.now q.ensures c.if-part.false c.in-Some.is c.literals_of-a.ensures c.literals_of-b.ensures in
     record {
       wrote = wrote_weaker (λ k e. inr e) l.ensures.wrote;
       met = later_loses L W l.new.lengths l.new.literals a b x c.requires.first c.requires.later at c.if-lengths-first.false (l.ensures.lost ∙ ap (λ y. without y (lemma_at L W b)) c.opposite.ensures)
