@@ -2,8 +2,8 @@ use Rattle.std.proofs.Common.{arith}
 use Rattle.rules.proofs.Lawful.{own_few}
 use Rattle.store.proofs.walk.walked.Goals as goal
 
-pub overflow-add-i : goal.overflow-add-i
-overflow-add-i g c =
+pub overflow_add-i : goal.overflow_add-i
+overflow_add-i g c =
     let s = own_few (g.S.Store.meaning c.args.s.now) c.lawful.ensures.laws c.args.l in
     let m = c.lawful.ensures.small in
     let i = c.loop-at.invariant.0 in
