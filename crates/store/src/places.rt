@@ -5,7 +5,7 @@ use crate::store::Store;
 
 // The clause at place i of the own list of l.
 pub fn nth<S: Store>(s: &S, l: u32, i: u32) -> Option<S::Handle>
-    ensures { elim result [ None ↦ length ((meaning s.now).own l) ≤ i | Some h ↦ at s.now h l i × (i < length ((meaning s.now).own l)) ] }
+    ensures { elim result [ None ↦ length ((S.meaning s.now).own l) ≤ i | Some h ↦ S.at s.now h l i × (i < length ((S.meaning s.now).own l)) ] }
 {
     let mut at = s.first(l);
     for k in 0..i {
@@ -20,8 +20,8 @@ pub fn nth<S: Store>(s: &S, l: u32, i: u32) -> Option<S::Handle>
 // Takes place i out of the own list of l, whose last clause comes there, and out of every list of uses. The answer is no, with nothing
 // changed, where there is no such place.
 pub fn remove<S: Store>(s: &mut S, l: u32, i: u32) -> bool
-    ensures when { result ≡ present (meaning s.old) l i }
-    ensures makes { meaning s.new ≡ (if result then removed l i (meaning s.old) else meaning s.old) }
+    ensures when { result ≡ present (S.meaning s.old) l i }
+    ensures makes { S.meaning s.new ≡ (if result then removed l i (S.meaning s.old) else S.meaning s.old) }
 {
     let Some(h) = nth(s, l, i) else {
         return false;
@@ -33,8 +33,8 @@ pub fn remove<S: Store>(s: &mut S, l: u32, i: u32) -> bool
 // Takes place i out of the own list of l, order kept. Lists of uses that have the clause keep it, dead. The answer is no, with nothing
 // changed, where there is no such place.
 pub fn retire<S: Store>(s: &mut S, l: u32, i: u32) -> bool
-    ensures when { result ≡ present (meaning s.old) l i }
-    ensures makes { meaning s.new ≡ (if result then retired l i (meaning s.old) else meaning s.old) }
+    ensures when { result ≡ present (S.meaning s.old) l i }
+    ensures makes { S.meaning s.new ≡ (if result then retired l i (S.meaning s.old) else S.meaning s.old) }
 {
     let Some(h) = nth(s, l, i) else {
         return false;
@@ -46,8 +46,8 @@ pub fn retire<S: Store>(s: &mut S, l: u32, i: u32) -> bool
 // Drops the literal x, not the last, from the clause at place i of the own list of l. The uses stay. The answer is no, with nothing
 // changed, where there is no such place or x is not there to be dropped.
 pub fn shorten<S: Store>(s: &mut S, l: u32, i: u32, x: u32) -> bool
-    ensures when { result ≡ droppable (meaning s.old) l i x }
-    ensures makes { meaning s.new ≡ (if result then shortened l i x (meaning s.old) else meaning s.old) }
+    ensures when { result ≡ droppable (S.meaning s.old) l i x }
+    ensures makes { S.meaning s.new ≡ (if result then shortened l i x (S.meaning s.old) else S.meaning s.old) }
 {
     let Some(h) = nth(s, l, i) else {
         return false;

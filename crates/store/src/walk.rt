@@ -5,7 +5,7 @@ use crate::store::Store;
 
 // How many clauses a walk along the own list of l meets.
 pub fn walked<S: Store>(s: &S, l: u32) -> u32
-    ensures { result ≡ length ((meaning s.now).own l) }
+    ensures { result ≡ length ((S.meaning s.now).own l) }
 {
     s.lawful();
     let mut i = 0;
@@ -19,7 +19,7 @@ pub fn walked<S: Store>(s: &S, l: u32) -> u32
 
 // How many clauses a walk along every own list meets: those that are live.
 pub fn walked_all<S: Store>(s: &S) -> u64
-    ensures { result ≡ live_clauses (meaning s.now) }
+    ensures { result ≡ live_clauses (S.meaning s.now) }
 {
     let mut n = 0u64;
     for l in 0..2048 {
