@@ -135,9 +135,14 @@ pub same_fields : (room room' : ℕ) (ix ix' : Bool) (vs : List ℕ) → room' �
 same_fields room room' ix ix' vs e f = ap (λ (r : ℕ). meaning_of r ix' vs) e ∙ ap (λ (b : Bool). meaning_of room b vs) f
 
 -- the facts of the struct, where its other fields are known by equations
-pub ghosts : (room room' : ℕ) (ix ix' : Bool) (vs : List ℕ) (n : ℕ) → room < 4097 → room' ≡ room → ix' ≡ ix → n ≡ total 2048 (λ l. length (own_of room vs l)) → Whole room ix vs → Lawful (meaning_of room ix vs) → (room' < 4097) × ((n ≡ total 2048 (λ l. length (own_of room' vs l))) × (∥ Sound room' ix' vs ∥₁ × (∥ Law (meaning_of room' ix' vs) ∥₁ × Unit {0})))
+pub ghosts : (room room' : ℕ) (ix ix' : Bool) (vs : List ℕ) (n : ℕ) → room < 4097 → room' ≡ room → ix' ≡ ix → n ≡ total 2048 (λ l. length (own_of room vs l)) → Whole room ix vs → Lawful (meaning_of room ix vs) → record { small : room' < 4097; alive : n ≡ total 2048 (λ l. length (own_of room' vs l)); whole : ∥ Sound room' ix' vs ∥₁; law : ∥ Law (meaning_of room' ix' vs) ∥₁ }
 ghosts room room' ix ix' vs n small e f l w L =
-    (omega arith, (subst (λ (r : ℕ). n ≡ total 2048 (λ l. length (own_of r vs l))) (sym e) l, (∣ (λ _. subst (λ (r : ℕ). Whole r ix' vs) (sym e) (subst (λ (b : Bool). Whole room b vs) (sym f) w)) ∣₁, (to_law (meaning_of room' ix' vs) (subst Lawful (sym (same_fields room room' ix ix' vs e f)) L), tt))))
+    record {
+      small = omega arith;
+      alive = subst (λ (r : ℕ). n ≡ total 2048 (λ l. length (own_of r vs l))) (sym e) l;
+      whole = ∣ (λ _. subst (λ (r : ℕ). Whole r ix' vs) (sym e) (subst (λ (b : Bool). Whole room b vs) (sym f) w)) ∣₁;
+      law = to_law (meaning_of room' ix' vs) (subst Lawful (sym (same_fields room room' ix ix' vs e f)) L);
+    }
 
 -- a clause of one literal has no front
 pub front_one : (k : ℕ) (c : List ℕ) → length c ≡ 1 → has k (front c) ≡ false

@@ -7,7 +7,7 @@ use Rattle.rings.proofs.Paths.{path_prev}
 use Rattle.rings.proofs.Shifts.{slot_at}
 use Rattle.rules.specs.Store.{Meaning}
 use Rattle.rules.specs.Lawful.{Lawful}
-use Rattle.store.proofs.Walks.{own_few}
+use Rattle.rules.proofs.Lawful.{own_few}
 use Rattle.scanned.specs.Layout.{node_count, rg, text_of, own_of, meaning_of, Whole, Sound, At}
 use Rattle.scanned.proofs.Asks.{at_room, at_literal, at_ring}
 

@@ -12,4 +12,4 @@ loop-n-preserved c =
     (subst (Whole c.args.room true) e (cut_whole c.args.room c.loop-n.ws c.loop-n.invariant.0 c.in-Some.n (reads_some c.args.room c.loop-n.ws c.loop-n.invariant.0 2050 (omega arith) c.in-Some.n c.in-Some.ensures)), kin_then c.args.room c.args.ws.now c.loop-n.ws c.unlink.new.ws c.loop-n.invariant.1 (subst (Kin c.args.room c.loop-n.ws) e (cut_kin c.args.room c.loop-n.ws c.loop-n.invariant.0 c.in-Some.n (reads_some c.args.room c.loop-n.ws c.loop-n.invariant.0 2050 (omega arith) c.in-Some.n c.in-Some.ensures))))
 
 pub returns : goal.returns
-returns c = record { whole = c.loop-n.invariant.0; kin = c.loop-n.invariant.1; none = reads_none c.args.room c.loop-n.ws c.loop-n.invariant.0 2050 (omega arith) c.in-default.ensures }
+returns c = record { whole = c.loop-n.invariant.0; kin = c.loop-n.invariant.1; none = reads_none c.args.room c.loop-n.ws c.loop-n.invariant.0 2050 (omega arith) c.in_default.ensures }

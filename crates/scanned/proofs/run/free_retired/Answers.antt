@@ -13,4 +13,4 @@ loop-x-preserved c =
     (subst (Whole c.args.room true) e (free_whole c.args.room c.loop-x.ws c.loop-x.invariant.0 c.loop-x.invariant.2 c.in-Some.x (reads_some c.args.room c.loop-x.ws c.loop-x.invariant.0 2049 (omega arith) c.in-Some.x c.in-Some.ensures)), kin_then c.args.room c.args.ws.now c.loop-x.ws c.shift.new.ws c.loop-x.invariant.1 (subst (Kin c.args.room c.loop-x.ws) e (free_kin c.args.room c.loop-x.ws c.loop-x.invariant.0 c.loop-x.invariant.2 c.in-Some.x (reads_some c.args.room c.loop-x.ws c.loop-x.invariant.0 2049 (omega arith) c.in-Some.x c.in-Some.ensures))), ap (λ (v : List ℕ). rg c.args.room v 2050) s ∙ free_none c.args.room c.loop-x.ws c.loop-x.invariant.0 c.loop-x.invariant.2 c.in-Some.x (reads_some c.args.room c.loop-x.ws c.loop-x.invariant.0 2049 (omega arith) c.in-Some.x c.in-Some.ensures))
 
 pub returns : goal.returns
-returns c = record { whole = c.loop-x.invariant.0; kin = c.loop-x.invariant.1; none = (c.loop-x.invariant.2, reads_none c.args.room c.loop-x.ws c.loop-x.invariant.0 2049 (omega arith) c.in-default.ensures) }
+returns c = record { whole = c.loop-x.invariant.0; kin = c.loop-x.invariant.1; none = (c.loop-x.invariant.2, reads_none c.args.room c.loop-x.ws c.loop-x.invariant.0 2049 (omega arith) c.in_default.ensures) }

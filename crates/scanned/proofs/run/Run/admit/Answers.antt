@@ -6,16 +6,16 @@ use Rattle.scanned.proofs.Frames.{last_is}
 use Rattle.scanned.proofs.Admits.{admit_slot, admit_words, admit_whole, admit_loose, admit_is, admit_live}
 use Rattle.scanned.proofs.run.Run.admit.Goals as goal
 
-pub overflow-sub-b : goal.overflow-sub-b
-overflow-sub-b c = (admit_slot c.args.self.now.room c.args.self.now.indexed c.args.self.now.words.now c.requires.whole c.requires.free).0
+pub overflow_sub-b : goal.overflow_sub-b
+overflow_sub-b c = (admit_slot c.args.self.now.room c.args.self.now.indexed c.args.self.now.words.now c.requires.whole c.requires.free).0
 
 pub write-requires : goal.write-requires
 write-requires c =
     let w = formed_parts c.args.clause.now c.requires.good in
     ((admit_slot c.args.self.now.room c.args.self.now.indexed c.args.self.now.words.now c.requires.whole c.requires.free).2, (let f = w.short in omega arith))
 
-pub overflow-sub-l : goal.overflow-sub-l
-overflow-sub-l c = let w = formed_parts c.args.clause.now c.requires.good in let s = w.some in omega arith
+pub overflow_sub-l : goal.overflow_sub-l
+overflow_sub-l c = let w = formed_parts c.args.clause.now c.requires.good in let s = w.some in omega arith
 
 pub bounds-clause-clause : goal.bounds-clause-clause
 bounds-clause-clause c = let w = formed_parts c.args.clause.now c.requires.good in let s = w.some in omega arith

@@ -6,8 +6,8 @@ use Rattle.scanned.proofs.Retires.{retire_here, retire_words, goes, goes_to}
 use Rattle.scanned.proofs.run.Run.put_by.Goals as goal
 use Rattle.scanned.proofs.run.Run.put_by.Goals.{then-self-n, else-self-n}
 
-pub overflow-add-n : goal.overflow-add-n
-overflow-add-n c = let p = at_low c.args.self.now.room c.args.self.now.indexed c.args.self.now.words.now (λ _. c.requires.whole) c.args.x c.args.l c.requires.at.0 c.requires.at.1 in let q = c.requires.some.1 in omega arith
+pub overflow_add-n : goal.overflow_add-n
+overflow_add-n c = let p = at_low c.args.self.now.room c.args.self.now.indexed c.args.self.now.words.now (λ _. c.requires.whole) c.args.x c.args.l c.requires.at.0 c.requires.at.1 in let q = c.requires.some.1 in omega arith
 
 pub bounds-self-n : goal.bounds-self-n
 bounds-self-n c = let h = retire_here c.args.self.now.room c.args.self.now.indexed c.args.self.now.words.now c.requires.whole c.requires.some.0 c.args.l c.requires.at.0 c.args.x c.requires.at.1 in omega arith

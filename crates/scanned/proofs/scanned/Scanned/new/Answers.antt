@@ -16,20 +16,20 @@ fill-requires c =
     let long : 2 * node_count c.args.room ≤ length c.args.words.now = omega arith in
     record { small = f1; none = filled_scattered c.args.room c.args.words.now c.scatter.new.ws long (c.scatter.ensures.alone long) }
 
-pub invariant-of-result : goal.invariant-of-result
-invariant-of-result c = (omega arith, (bare_live c.args.words.now, (∣ (λ r. absurd (omega arith)) ∣₁, (to_law (meaning_of 0 false c.args.words.now) (subst Lawful (sym (bare_blank c.args.words.now)) (emptied_lawful (blank 0))), tt))))
+pub invariant_of-result : goal.invariant_of-result
+invariant_of-result c = record { small = omega arith; alive = bare_live c.args.words.now; whole = ∣ (λ r. absurd (omega arith)) ∣₁; law = to_law (meaning_of 0 false c.args.words.now) (subst Lawful (sym (bare_blank c.args.words.now)) (emptied_lawful (blank 0))) }
 
 pub returns-then-not-can : goal.returns-then-not-can
 returns-then-not-can c =
     let t = fitting c.args.room (length c.args.words.now) in
     bare_blank c.args.words.now ∙ ap blank (sym (cond-false t c.args.room 0 (sym c.can.ensures ∙ c.if-not-can.true)))
 
-pub invariant-of-result-2 : goal.invariant-of-result-2
-invariant-of-result-2 c =
+pub invariant_of-result-2 : goal.invariant_of-result-2
+invariant_of-result-2 c =
     let f = fitting_means c.args.room (length c.args.words.now) (sym c.if-not-can.ensures) in
     let f1 = f.1 in
     let f2 = f.2 in
-    (f1, (filled_live c.args.room c.fill.new.ws c.fill.ensures, (∣ (λ r. filled_whole c.args.room c.fill.new.ws c.fill.ensures (omega (arith, c.scatter.auto.ws, c.fill.auto.ws))) ∣₁, (to_law (meaning_of c.args.room false c.fill.new.ws) (subst Lawful (sym (filled_blank c.args.room c.fill.new.ws c.fill.ensures)) (emptied_lawful (blank c.args.room))), tt))))
+    record { small = f1; alive = filled_live c.args.room c.fill.new.ws c.fill.ensures; whole = ∣ (λ r. filled_whole c.args.room c.fill.new.ws c.fill.ensures (omega (arith, c.scatter.auto.ws, c.fill.auto.ws))) ∣₁; law = to_law (meaning_of c.args.room false c.fill.new.ws) (subst Lawful (sym (filled_blank c.args.room c.fill.new.ws c.fill.ensures)) (emptied_lawful (blank c.args.room))) }
 
 pub returns : goal.returns
 returns c =

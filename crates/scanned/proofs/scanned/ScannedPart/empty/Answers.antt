@@ -13,8 +13,8 @@ use Rattle.scanned.proofs.scanned.ScannedPart.empty.Goals as goal
 pub reset-requires : goal.reset-requires
 reset-requires c = let n = c.if-self-eq0.false in let r : 0 < c.args.self.now.run.room = omega arith in (c.args.self.now.small, ((sound c.args.self.now.whole) r).long)
 
-pub invariant-of-self-2 : goal.invariant-of-self-2
-invariant-of-self-2 c =
+pub invariant_of-self-2 : goal.invariant_of-self-2
+invariant_of-self-2 c =
     let n = c.if-self-eq0.false in
     let r : 0 < c.args.self.now.run.room = omega arith in
     let l = ((sound c.args.self.now.whole) r).long in
@@ -28,5 +28,5 @@ returns c = same_fields c.args.self.now.run.room c.reset.new.self.room false c.r
 pub returns-then-self-eq0 : goal.returns-then-self-eq0
 returns-then-self-eq0 c = no_room_blank c.args.self.now.run.room c.args.self.now.run.words.now c.if-self-eq0.true
 
-pub invariant-of-self : goal.invariant-of-self
-invariant-of-self c = let e = c.if-self-eq0.true in (tt, (c.args.self.now.small, (c.args.self.now.alive, (∣ (λ r. absurd (omega arith)) ∣₁, (to_law (meaning_of c.args.self.now.run.room false c.args.self.now.run.words.now) (subst Lawful (sym (no_room_blank c.args.self.now.run.room c.args.self.now.run.words.now e)) (emptied_lawful (blank c.args.self.now.run.room))), tt)))))
+pub invariant_of-self : goal.invariant_of-self
+invariant_of-self c = let e = c.if-self-eq0.true in record { small = c.args.self.now.small; alive = c.args.self.now.alive; whole = ∣ (λ r. absurd (omega arith)) ∣₁; law = to_law (meaning_of c.args.self.now.run.room false c.args.self.now.run.words.now) (subst Lawful (sym (no_room_blank c.args.self.now.run.room c.args.self.now.run.words.now e)) (emptied_lawful (blank c.args.self.now.run.room))) }

@@ -24,36 +24,36 @@ admit-x-requires c =
     let w : Whole c.args.self.now.run.room c.args.self.now.run.indexed c.args.self.now.run.words.now = (sound c.args.self.now.whole) r in
     let l = live_few c.args.self.now.run.room c.args.self.now.run.indexed c.args.self.now.run.words.now c.args.self.now.run.live r w c.args.self.now.alive in
     let s = c.args.self.now.small in
-    record { whole = w; some = (r, s, omega arith); good = (sym c.if-not-well-formed.ensures); free = c.if-self-eq2048.false }
+    record { whole = w; some = (r, s, omega arith); good = (sym c.if-not-well_formed.ensures); free = c.if-self-eq2048.false }
 
-pub invariant-of-self : goal.invariant-of-self
-invariant-of-self c =
+pub invariant_of-self : goal.invariant_of-self
+invariant_of-self c =
     let t = c.admit-x.ensures.total in
     let a = c.args.self.now.alive in
     let l = c.admit-x.ensures.same.2 in
-    ghosts c.args.self.now.run.room c.admit-x.new.self.room c.args.self.now.run.indexed c.admit-x.new.self.indexed c.admit-x.new.self.words.now c.admit-x.new.self.live c.args.self.now.small c.admit-x.ensures.same.0 c.admit-x.ensures.same.1 (omega arith) c.admit-x.ensures.whole (subst Lawful (sym (admitted_meaning c.args.self.now.run.room c.args.self.now.run.indexed c.args.self.now.run.words.now c.admit-x.new.self.words.now c.admit-x.result c.args.clause.now c.admit-x.ensures.admitted (λ k. and_left c.args.self.now.run.indexed (has k (front c.args.clause.now)) (sym c.admit-x.ensures.same.1 ∙ c.if-not-self.true)))) (entered_lawful c.args.clause.now (meaning_of c.args.self.now.run.room c.args.self.now.run.indexed c.args.self.now.run.words.now) (law (meaning_of c.args.self.now.run.room c.args.self.now.run.indexed c.args.self.now.run.words.now) c.args.self.now.law) (enter_fits c.args.self.now.run.room c.args.self.now.run.indexed c.args.self.now.run.words.now c.args.clause.now (let n = c.if-self-eq0.false in omega arith) ((sound c.args.self.now.whole) (let n = c.if-self-eq0.false in omega arith)) c.if-self-eq2048.false (sym c.if-not-well-formed.ensures))))
+    ghosts c.args.self.now.run.room c.admit-x.new.self.room c.args.self.now.run.indexed c.admit-x.new.self.indexed c.admit-x.new.self.words.now c.admit-x.new.self.live c.args.self.now.small c.admit-x.ensures.same.0 c.admit-x.ensures.same.1 (omega arith) c.admit-x.ensures.whole (subst Lawful (sym (admitted_meaning c.args.self.now.run.room c.args.self.now.run.indexed c.args.self.now.run.words.now c.admit-x.new.self.words.now c.admit-x.result c.args.clause.now c.admit-x.ensures.admitted (λ k. and_left c.args.self.now.run.indexed (has k (front c.args.clause.now)) (sym c.admit-x.ensures.same.1 ∙ c.if-not-self.true)))) (entered_lawful c.args.clause.now (meaning_of c.args.self.now.run.room c.args.self.now.run.indexed c.args.self.now.run.words.now) (law (meaning_of c.args.self.now.run.room c.args.self.now.run.indexed c.args.self.now.run.words.now) c.args.self.now.law) (enter_fits c.args.self.now.run.room c.args.self.now.run.indexed c.args.self.now.run.words.now c.args.clause.now (let n = c.if-self-eq0.false in omega arith) ((sound c.args.self.now.whole) (let n = c.if-self-eq0.false in omega arith)) c.if-self-eq2048.false (sym c.if-not-well_formed.ensures))))
 
 pub returns-then-not-self : goal.returns-then-not-self
 returns-then-not-self c = record {
-  when = sym (enter_fits c.args.self.now.run.room c.args.self.now.run.indexed c.args.self.now.run.words.now c.args.clause.now (let n = c.if-self-eq0.false in omega arith) ((sound c.args.self.now.whole) (let n = c.if-self-eq0.false in omega arith)) c.if-self-eq2048.false (sym c.if-not-well-formed.ensures));
+  when = sym (enter_fits c.args.self.now.run.room c.args.self.now.run.indexed c.args.self.now.run.words.now c.args.clause.now (let n = c.if-self-eq0.false in omega arith) ((sound c.args.self.now.whole) (let n = c.if-self-eq0.false in omega arith)) c.if-self-eq2048.false (sym c.if-not-well_formed.ensures));
   makes = same_fields c.args.self.now.run.room c.admit-x.new.self.room c.args.self.now.run.indexed c.admit-x.new.self.indexed c.admit-x.new.self.words.now c.admit-x.ensures.same.0 c.admit-x.ensures.same.1 ∙ admitted_meaning c.args.self.now.run.room c.args.self.now.run.indexed c.args.self.now.run.words.now c.admit-x.new.self.words.now c.admit-x.result c.args.clause.now c.admit-x.ensures.admitted (λ k. and_left c.args.self.now.run.indexed (has k (front c.args.clause.now)) (sym c.admit-x.ensures.same.1 ∙ c.if-not-self.true));
 }
 
-pub invariant-of-self-then-clause-eq1 : goal.invariant-of-self-then-clause-eq1
-invariant-of-self-then-clause-eq1 c =
+pub invariant_of-self-then-clause-eq1 : goal.invariant_of-self-then-clause-eq1
+invariant_of-self-then-clause-eq1 c =
     let t = c.admit-x.ensures.total in
     let a = c.args.self.now.alive in
     let l = c.admit-x.ensures.same.2 in
-    ghosts c.args.self.now.run.room c.admit-x.new.self.room c.args.self.now.run.indexed c.admit-x.new.self.indexed c.admit-x.new.self.words.now c.admit-x.new.self.live c.args.self.now.small c.admit-x.ensures.same.0 c.admit-x.ensures.same.1 (omega arith) c.admit-x.ensures.whole (subst Lawful (sym (admitted_meaning c.args.self.now.run.room c.args.self.now.run.indexed c.args.self.now.run.words.now c.admit-x.new.self.words.now c.admit-x.result c.args.clause.now c.admit-x.ensures.admitted (λ k. and_right c.args.self.now.run.indexed (has k (front c.args.clause.now)) (front_one k c.args.clause.now c.if-clause-eq1.true)))) (entered_lawful c.args.clause.now (meaning_of c.args.self.now.run.room c.args.self.now.run.indexed c.args.self.now.run.words.now) (law (meaning_of c.args.self.now.run.room c.args.self.now.run.indexed c.args.self.now.run.words.now) c.args.self.now.law) (enter_fits c.args.self.now.run.room c.args.self.now.run.indexed c.args.self.now.run.words.now c.args.clause.now (let n = c.if-self-eq0.false in omega arith) ((sound c.args.self.now.whole) (let n = c.if-self-eq0.false in omega arith)) c.if-self-eq2048.false (sym c.if-not-well-formed.ensures))))
+    ghosts c.args.self.now.run.room c.admit-x.new.self.room c.args.self.now.run.indexed c.admit-x.new.self.indexed c.admit-x.new.self.words.now c.admit-x.new.self.live c.args.self.now.small c.admit-x.ensures.same.0 c.admit-x.ensures.same.1 (omega arith) c.admit-x.ensures.whole (subst Lawful (sym (admitted_meaning c.args.self.now.run.room c.args.self.now.run.indexed c.args.self.now.run.words.now c.admit-x.new.self.words.now c.admit-x.result c.args.clause.now c.admit-x.ensures.admitted (λ k. and_right c.args.self.now.run.indexed (has k (front c.args.clause.now)) (front_one k c.args.clause.now c.if-clause-eq1.true)))) (entered_lawful c.args.clause.now (meaning_of c.args.self.now.run.room c.args.self.now.run.indexed c.args.self.now.run.words.now) (law (meaning_of c.args.self.now.run.room c.args.self.now.run.indexed c.args.self.now.run.words.now) c.args.self.now.law) (enter_fits c.args.self.now.run.room c.args.self.now.run.indexed c.args.self.now.run.words.now c.args.clause.now (let n = c.if-self-eq0.false in omega arith) ((sound c.args.self.now.whole) (let n = c.if-self-eq0.false in omega arith)) c.if-self-eq2048.false (sym c.if-not-well_formed.ensures))))
 
 pub returns-then-clause-eq1 : goal.returns-then-clause-eq1
 returns-then-clause-eq1 c = record {
-  when = sym (enter_fits c.args.self.now.run.room c.args.self.now.run.indexed c.args.self.now.run.words.now c.args.clause.now (let n = c.if-self-eq0.false in omega arith) ((sound c.args.self.now.whole) (let n = c.if-self-eq0.false in omega arith)) c.if-self-eq2048.false (sym c.if-not-well-formed.ensures));
+  when = sym (enter_fits c.args.self.now.run.room c.args.self.now.run.indexed c.args.self.now.run.words.now c.args.clause.now (let n = c.if-self-eq0.false in omega arith) ((sound c.args.self.now.whole) (let n = c.if-self-eq0.false in omega arith)) c.if-self-eq2048.false (sym c.if-not-well_formed.ensures));
   makes = same_fields c.args.self.now.run.room c.admit-x.new.self.room c.args.self.now.run.indexed c.admit-x.new.self.indexed c.admit-x.new.self.words.now c.admit-x.ensures.same.0 c.admit-x.ensures.same.1 ∙ admitted_meaning c.args.self.now.run.room c.args.self.now.run.indexed c.args.self.now.run.words.now c.admit-x.new.self.words.now c.admit-x.result c.args.clause.now c.admit-x.ensures.admitted (λ k. and_right c.args.self.now.run.indexed (has k (front c.args.clause.now)) (front_one k c.args.clause.now c.if-clause-eq1.true));
 }
 
-pub invariant-of-self-2 : goal.invariant-of-self-2
-invariant-of-self-2 c =
+pub invariant_of-self-2 : goal.invariant_of-self-2
+invariant_of-self-2 c =
     let t = c.admit-x.ensures.total in
     let a = c.args.self.now.alive in
     let l = c.admit-x.ensures.same.2 in
@@ -63,7 +63,7 @@ invariant-of-self-2 c =
     let j : Joined c.args.self.now.run.room c.admit-x.new.self.words.now c.join.new.self.words.now c.admit-x.result = subst (λ (r : ℕ). Joined r c.admit-x.new.self.words.now c.join.new.self.words.now c.admit-x.result) e c.join.ensures.joined in
     let u = joined_total c.args.self.now.run.room c.admit-x.new.self.words.now c.join.new.self.words.now c.admit-x.result j in
     let w : Whole c.args.self.now.run.room c.args.self.now.run.indexed c.join.new.self.words.now = subst (λ (r : ℕ). Whole r c.args.self.now.run.indexed c.join.new.self.words.now) e (subst (λ (b : Bool). Whole c.admit-x.new.self.room b c.join.new.self.words.now) f c.join.ensures.whole) in
-    ghosts c.args.self.now.run.room c.join.new.self.room c.args.self.now.run.indexed c.join.new.self.indexed c.join.new.self.words.now c.join.new.self.live c.args.self.now.small (c.join.ensures.same.0 ∙ e) (c.join.ensures.same.1 ∙ f) (omega arith) w (subst Lawful (sym (joined_meaning c.args.self.now.run.room c.args.self.now.run.indexed c.args.self.now.run.words.now c.admit-x.new.self.words.now c.admit-x.result c.args.clause.now c.admit-x.ensures.admitted c.join.new.self.words.now j (sym f ∙ c.if-not-self.false) (formed_parts c.args.clause.now (sym c.if-not-well-formed.ensures)).order)) (entered_lawful c.args.clause.now (meaning_of c.args.self.now.run.room c.args.self.now.run.indexed c.args.self.now.run.words.now) (law (meaning_of c.args.self.now.run.room c.args.self.now.run.indexed c.args.self.now.run.words.now) c.args.self.now.law) (enter_fits c.args.self.now.run.room c.args.self.now.run.indexed c.args.self.now.run.words.now c.args.clause.now (let n = c.if-self-eq0.false in omega arith) ((sound c.args.self.now.whole) (let n = c.if-self-eq0.false in omega arith)) c.if-self-eq2048.false (sym c.if-not-well-formed.ensures))))
+    ghosts c.args.self.now.run.room c.join.new.self.room c.args.self.now.run.indexed c.join.new.self.indexed c.join.new.self.words.now c.join.new.self.live c.args.self.now.small (c.join.ensures.same.0 ∙ e) (c.join.ensures.same.1 ∙ f) (omega arith) w (subst Lawful (sym (joined_meaning c.args.self.now.run.room c.args.self.now.run.indexed c.args.self.now.run.words.now c.admit-x.new.self.words.now c.admit-x.result c.args.clause.now c.admit-x.ensures.admitted c.join.new.self.words.now j (sym f ∙ c.if-not-self.false) (formed_parts c.args.clause.now (sym c.if-not-well_formed.ensures)).order)) (entered_lawful c.args.clause.now (meaning_of c.args.self.now.run.room c.args.self.now.run.indexed c.args.self.now.run.words.now) (law (meaning_of c.args.self.now.run.room c.args.self.now.run.indexed c.args.self.now.run.words.now) c.args.self.now.law) (enter_fits c.args.self.now.run.room c.args.self.now.run.indexed c.args.self.now.run.words.now c.args.clause.now (let n = c.if-self-eq0.false in omega arith) ((sound c.args.self.now.whole) (let n = c.if-self-eq0.false in omega arith)) c.if-self-eq2048.false (sym c.if-not-well_formed.ensures))))
 
 pub returns : goal.returns
 returns c =
@@ -71,8 +71,8 @@ returns c =
     let f = c.admit-x.ensures.same.1 in
     let j : Joined c.args.self.now.run.room c.admit-x.new.self.words.now c.join.new.self.words.now c.admit-x.result = subst (λ (r : ℕ). Joined r c.admit-x.new.self.words.now c.join.new.self.words.now c.admit-x.result) e c.join.ensures.joined in
     record {
-      when = sym (enter_fits c.args.self.now.run.room c.args.self.now.run.indexed c.args.self.now.run.words.now c.args.clause.now (let n = c.if-self-eq0.false in omega arith) ((sound c.args.self.now.whole) (let n = c.if-self-eq0.false in omega arith)) c.if-self-eq2048.false (sym c.if-not-well-formed.ensures));
-      makes = same_fields c.args.self.now.run.room c.join.new.self.room c.args.self.now.run.indexed c.join.new.self.indexed c.join.new.self.words.now (c.join.ensures.same.0 ∙ e) (c.join.ensures.same.1 ∙ f) ∙ joined_meaning c.args.self.now.run.room c.args.self.now.run.indexed c.args.self.now.run.words.now c.admit-x.new.self.words.now c.admit-x.result c.args.clause.now c.admit-x.ensures.admitted c.join.new.self.words.now j (sym f ∙ c.if-not-self.false) (formed_parts c.args.clause.now (sym c.if-not-well-formed.ensures)).order;
+      when = sym (enter_fits c.args.self.now.run.room c.args.self.now.run.indexed c.args.self.now.run.words.now c.args.clause.now (let n = c.if-self-eq0.false in omega arith) ((sound c.args.self.now.whole) (let n = c.if-self-eq0.false in omega arith)) c.if-self-eq2048.false (sym c.if-not-well_formed.ensures));
+      makes = same_fields c.args.self.now.run.room c.join.new.self.room c.args.self.now.run.indexed c.join.new.self.indexed c.join.new.self.words.now (c.join.ensures.same.0 ∙ e) (c.join.ensures.same.1 ∙ f) ∙ joined_meaning c.args.self.now.run.room c.args.self.now.run.indexed c.args.self.now.run.words.now c.admit-x.new.self.words.now c.admit-x.result c.args.clause.now c.admit-x.ensures.admitted c.join.new.self.words.now j (sym f ∙ c.if-not-self.false) (formed_parts c.args.clause.now (sym c.if-not-well_formed.ensures)).order;
     }
 
 pub join-requires : goal.join-requires
@@ -81,7 +81,7 @@ join-requires c =
     let f = c.admit-x.ensures.same.1 in
     let n = c.if-self-eq0.false in
     let z = c.args.self.now.small in
-    let g = sym c.if-not-well-formed.ensures in
+    let g = sym c.if-not-well_formed.ensures in
     record {
       whole = subst (λ (r : ℕ). Whole r c.admit-x.new.self.indexed c.admit-x.new.self.words.now) (sym e) (subst (λ (b : Bool). Whole c.args.self.now.run.room b c.admit-x.new.self.words.now) (sym f) c.admit-x.ensures.whole);
       some = (omega arith, omega arith, c.if-not-self.false);

@@ -20,15 +20,15 @@ pub loop-k-init : goal.loop-k-init
 loop-k-init c = (walk_start c.args.self.now.run.room c.args.self.now.run.indexed c.args.self.now.run.words.now c.args.l (sound c.args.self.now.whole) c.if-self-eq0.false c.if-l-ge2048.false)
 
 pub returns-then-x-lt2051 : goal.returns-then-x-lt2051
-returns-then-x-lt2051 c = let e = ended c.args.self.now.run.room c.args.self.now.run.indexed c.args.self.now.run.words.now c.args.l c.loop-k.-k c.loop-k.x (sound c.args.self.now.whole) c.if-self-eq0.false c.if-l-ge2048.false c.loop-k.invariant c.if-x-lt2051.true in omega arith
+returns-then-x-lt2051 c = let e = ended c.args.self.now.run.room c.args.self.now.run.indexed c.args.self.now.run.words.now c.args.l c.loop-k._k c.loop-k.x (sound c.args.self.now.whole) c.if-self-eq0.false c.if-l-ge2048.false c.loop-k.invariant c.if-x-lt2051.true in omega arith
 
 pub loop-k-preserved : goal.loop-k-preserved
-loop-k-preserved c = step c.args.self.now.run.room c.args.self.now.run.indexed c.args.self.now.run.words.now c.args.l c.loop-k.-k c.loop-k.x (sound c.args.self.now.whole) c.if-self-eq0.false c.if-l-ge2048.false c.loop-k.invariant c.if-x-lt2051.false
+loop-k-preserved c = step c.args.self.now.run.room c.args.self.now.run.indexed c.args.self.now.run.words.now c.args.l c.loop-k._k c.loop-k.x (sound c.args.self.now.whole) c.if-self-eq0.false c.if-l-ge2048.false c.loop-k.invariant c.if-x-lt2051.false
 
 pub returns-then-x-lt2051-2 : goal.returns-then-x-lt2051-2
-returns-then-x-lt2051-2 c = let e = ended c.args.self.now.run.room c.args.self.now.run.indexed c.args.self.now.run.words.now c.args.l c.loop-k.-k c.loop-k.x (sound c.args.self.now.whole) c.if-self-eq0.false c.if-l-ge2048.false c.loop-k.invariant c.if-x-lt2051-2.true in omega arith
+returns-then-x-lt2051-2 c = let e = ended c.args.self.now.run.room c.args.self.now.run.indexed c.args.self.now.run.words.now c.args.l c.loop-k._k c.loop-k.x (sound c.args.self.now.whole) c.if-self-eq0.false c.if-l-ge2048.false c.loop-k.invariant c.if-x-lt2051-2.true in omega arith
 
 pub returns-else-x-lt2051-2 : goal.returns-else-x-lt2051-2
 returns-else-x-lt2051-2 c =
-    let e : c.loop-k.-k ≡ c.args.i = omega arith in
-    at_in c.args.self.now.run.room c.args.self.now.run.indexed c.args.self.now.run.words.now c.loop-k.x c.args.l c.args.i (subst (λ (n : ℕ). At c.args.self.now.run.room c.args.self.now.run.words.now c.loop-k.x c.args.l n) e (found c.args.self.now.run.room c.args.self.now.run.indexed c.args.self.now.run.words.now c.args.l c.loop-k.-k c.loop-k.x (sound c.args.self.now.whole) c.if-self-eq0.false c.if-l-ge2048.false c.loop-k.invariant c.if-x-lt2051-2.false))
+    let e : c.loop-k._k ≡ c.args.i = omega arith in
+    at_in c.args.self.now.run.room c.args.self.now.run.indexed c.args.self.now.run.words.now c.loop-k.x c.args.l c.args.i (subst (λ (n : ℕ). At c.args.self.now.run.room c.args.self.now.run.words.now c.loop-k.x c.args.l n) e (found c.args.self.now.run.room c.args.self.now.run.indexed c.args.self.now.run.words.now c.args.l c.loop-k._k c.loop-k.x (sound c.args.self.now.whole) c.if-self-eq0.false c.if-l-ge2048.false c.loop-k.invariant c.if-x-lt2051-2.false))

@@ -28,5 +28,5 @@ loop-x-preserved c = step c.args.self.now.run.room c.args.self.now.run.indexed c
 pub returns : goal.returns
 returns c = sym (ended c.args.self.now.run.room c.args.self.now.run.indexed c.args.self.now.run.words.now c.args.l c.loop-x.n c.loop-x.x (sound c.args.self.now.whole) c.if-self-eq0.false c.if-l-ge2048.false c.loop-x.invariant c.loop-x-test.false)
 
-pub overflow-add-n : goal.overflow-add-n
-overflow-add-n c = let b = step_few c.args.self.now.run.room c.args.self.now.run.indexed c.args.self.now.run.words.now c.args.l c.loop-x.n c.loop-x.x (sound c.args.self.now.whole) c.if-self-eq0.false c.if-l-ge2048.false c.loop-x.invariant c.loop-x-test.true in omega (arith, c.args.self.now.small)
+pub overflow_add-n : goal.overflow_add-n
+overflow_add-n c = let b = step_few c.args.self.now.run.room c.args.self.now.run.indexed c.args.self.now.run.words.now c.args.l c.loop-x.n c.loop-x.x (sound c.args.self.now.whole) c.if-self-eq0.false c.if-l-ge2048.false c.loop-x.invariant c.loop-x-test.true in omega (arith, c.args.self.now.small)

@@ -18,8 +18,8 @@ discard-requires c =
     let a = c.args.self.now.alive in
     record { whole = (sound c.args.self.now.whole) r; some = (r, c.args.self.now.small, omega arith); at = (c.args.i, c.in-Some.ensures.0) }
 
-pub invariant-of-self : goal.invariant-of-self
-invariant-of-self c =
+pub invariant_of-self : goal.invariant_of-self
+invariant_of-self c =
     let r = at_room c.args.self.now.run.room c.args.self.now.run.indexed c.args.self.now.run.words.now (sound c.args.self.now.whole) c.in-Some.x c.args.l c.args.i c.in-Some.ensures.0 in
     let w : Whole c.args.self.now.run.room c.args.self.now.run.indexed c.discard.new.self.words.now = subst (Whole c.args.self.now.run.room c.args.self.now.run.indexed) (sym c.discard.ensures.words) (remove_whole c.args.self.now.run.room c.args.self.now.run.indexed c.args.self.now.run.words.now ((sound c.args.self.now.whole) r) r c.args.l c.args.i c.in-Some.x c.in-Some.ensures.0 (remove_length c.args.self.now.run.room c.args.self.now.run.indexed c.args.self.now.run.words.now ((sound c.args.self.now.whole) r) r c.args.l c.args.i c.in-Some.x c.in-Some.ensures.0)) in
     let t : total 2048 (λ m. length (own_of c.args.self.now.run.room c.discard.new.self.words.now m)) + 1 ≡ total 2048 (λ m. length (own_of c.args.self.now.run.room c.args.self.now.run.words.now m)) = ap (λ (vs : List ℕ). total 2048 (λ m. length (own_of c.args.self.now.run.room vs m)) + 1) c.discard.ensures.words ∙ remove_live c.args.self.now.run.room c.args.self.now.run.indexed c.args.self.now.run.words.now ((sound c.args.self.now.whole) r) r c.args.l c.args.i c.in-Some.x c.in-Some.ensures.0 in

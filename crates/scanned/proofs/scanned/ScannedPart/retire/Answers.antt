@@ -12,26 +12,26 @@ use Rattle.scanned.proofs.Removes.{remove_some, remove_stands}
 use Rattle.scanned.proofs.Retires.{retire_whole, retire_live, retired_meaning, goes, goes_to}
 use Rattle.scanned.proofs.scanned.ScannedPart.retire.Goals as goal
 
-pub put-by-requires : goal.put-by-requires
-put-by-requires c =
+pub put_by-requires : goal.put_by-requires
+put_by-requires c =
     let r = at_room c.args.self.now.run.room c.args.self.now.run.indexed c.args.self.now.run.words.now (sound c.args.self.now.whole) c.in-Some.x c.args.l c.args.i c.in-Some.ensures.0 in
     let p = remove_some c.args.self.now.run.room c.args.self.now.run.indexed c.args.self.now.run.words.now ((sound c.args.self.now.whole) r) r c.args.l c.args.i c.in-Some.x c.in-Some.ensures.0 in
     let a = c.args.self.now.alive in
     record { whole = (sound c.args.self.now.whole) r; some = (r, c.args.self.now.small, omega arith); at = (c.args.i, c.in-Some.ensures.0) }
 
-pub invariant-of-self : goal.invariant-of-self
-invariant-of-self c =
+pub invariant_of-self : goal.invariant_of-self
+invariant_of-self c =
     let r = at_room c.args.self.now.run.room c.args.self.now.run.indexed c.args.self.now.run.words.now (sound c.args.self.now.whole) c.in-Some.x c.args.l c.args.i c.in-Some.ensures.0 in
-    let w : Whole c.args.self.now.run.room c.args.self.now.run.indexed c.put-by.new.self.words.now = subst (Whole c.args.self.now.run.room c.args.self.now.run.indexed) (sym c.put-by.ensures.words) (retire_whole c.args.self.now.run.room c.args.self.now.run.indexed c.args.self.now.run.words.now ((sound c.args.self.now.whole) r) r c.args.l c.args.i c.in-Some.x c.in-Some.ensures.0 (goes c.args.self.now.run.room c.args.self.now.run.indexed c.args.self.now.run.words.now ((sound c.args.self.now.whole) r) r c.args.l c.args.i c.in-Some.x c.in-Some.ensures.0) (goes_to c.args.self.now.run.room c.args.self.now.run.indexed c.args.self.now.run.words.now ((sound c.args.self.now.whole) r) r c.args.l c.args.i c.in-Some.x c.in-Some.ensures.0)) in
-    let t : total 2048 (λ m. length (own_of c.args.self.now.run.room c.put-by.new.self.words.now m)) + 1 ≡ total 2048 (λ m. length (own_of c.args.self.now.run.room c.args.self.now.run.words.now m)) = ap (λ (vs : List ℕ). total 2048 (λ m. length (own_of c.args.self.now.run.room vs m)) + 1) c.put-by.ensures.words ∙ retire_live c.args.self.now.run.room c.args.self.now.run.indexed c.args.self.now.run.words.now ((sound c.args.self.now.whole) r) r c.args.l c.args.i c.in-Some.x c.in-Some.ensures.0 (goes c.args.self.now.run.room c.args.self.now.run.indexed c.args.self.now.run.words.now ((sound c.args.self.now.whole) r) r c.args.l c.args.i c.in-Some.x c.in-Some.ensures.0) (goes_to c.args.self.now.run.room c.args.self.now.run.indexed c.args.self.now.run.words.now ((sound c.args.self.now.whole) r) r c.args.l c.args.i c.in-Some.x c.in-Some.ensures.0) in
+    let w : Whole c.args.self.now.run.room c.args.self.now.run.indexed c.put_by.new.self.words.now = subst (Whole c.args.self.now.run.room c.args.self.now.run.indexed) (sym c.put_by.ensures.words) (retire_whole c.args.self.now.run.room c.args.self.now.run.indexed c.args.self.now.run.words.now ((sound c.args.self.now.whole) r) r c.args.l c.args.i c.in-Some.x c.in-Some.ensures.0 (goes c.args.self.now.run.room c.args.self.now.run.indexed c.args.self.now.run.words.now ((sound c.args.self.now.whole) r) r c.args.l c.args.i c.in-Some.x c.in-Some.ensures.0) (goes_to c.args.self.now.run.room c.args.self.now.run.indexed c.args.self.now.run.words.now ((sound c.args.self.now.whole) r) r c.args.l c.args.i c.in-Some.x c.in-Some.ensures.0)) in
+    let t : total 2048 (λ m. length (own_of c.args.self.now.run.room c.put_by.new.self.words.now m)) + 1 ≡ total 2048 (λ m. length (own_of c.args.self.now.run.room c.args.self.now.run.words.now m)) = ap (λ (vs : List ℕ). total 2048 (λ m. length (own_of c.args.self.now.run.room vs m)) + 1) c.put_by.ensures.words ∙ retire_live c.args.self.now.run.room c.args.self.now.run.indexed c.args.self.now.run.words.now ((sound c.args.self.now.whole) r) r c.args.l c.args.i c.in-Some.x c.in-Some.ensures.0 (goes c.args.self.now.run.room c.args.self.now.run.indexed c.args.self.now.run.words.now ((sound c.args.self.now.whole) r) r c.args.l c.args.i c.in-Some.x c.in-Some.ensures.0) (goes_to c.args.self.now.run.room c.args.self.now.run.indexed c.args.self.now.run.words.now ((sound c.args.self.now.whole) r) r c.args.l c.args.i c.in-Some.x c.in-Some.ensures.0) in
     let a = c.args.self.now.alive in
-    let l = c.put-by.ensures.same.2 in
-    ghosts c.args.self.now.run.room c.put-by.new.self.room c.args.self.now.run.indexed c.put-by.new.self.indexed c.put-by.new.self.words.now c.put-by.new.self.live c.args.self.now.small c.put-by.ensures.same.0 c.put-by.ensures.same.1 (omega arith) w (subst Lawful (sym (ap (meaning_of c.args.self.now.run.room c.args.self.now.run.indexed) c.put-by.ensures.words ∙ retired_meaning c.args.self.now.run.room c.args.self.now.run.indexed c.args.self.now.run.words.now ((sound c.args.self.now.whole) r) r c.args.l c.args.i c.in-Some.x c.in-Some.ensures.0 (goes c.args.self.now.run.room c.args.self.now.run.indexed c.args.self.now.run.words.now ((sound c.args.self.now.whole) r) r c.args.l c.args.i c.in-Some.x c.in-Some.ensures.0) (goes_to c.args.self.now.run.room c.args.self.now.run.indexed c.args.self.now.run.words.now ((sound c.args.self.now.whole) r) r c.args.l c.args.i c.in-Some.x c.in-Some.ensures.0))) (retired_lawful c.args.l c.args.i (meaning_of c.args.self.now.run.room c.args.self.now.run.indexed c.args.self.now.run.words.now) (law (meaning_of c.args.self.now.run.room c.args.self.now.run.indexed c.args.self.now.run.words.now) c.args.self.now.law) c.in-Some.ensures.1))
+    let l = c.put_by.ensures.same.2 in
+    ghosts c.args.self.now.run.room c.put_by.new.self.room c.args.self.now.run.indexed c.put_by.new.self.indexed c.put_by.new.self.words.now c.put_by.new.self.live c.args.self.now.small c.put_by.ensures.same.0 c.put_by.ensures.same.1 (omega arith) w (subst Lawful (sym (ap (meaning_of c.args.self.now.run.room c.args.self.now.run.indexed) c.put_by.ensures.words ∙ retired_meaning c.args.self.now.run.room c.args.self.now.run.indexed c.args.self.now.run.words.now ((sound c.args.self.now.whole) r) r c.args.l c.args.i c.in-Some.x c.in-Some.ensures.0 (goes c.args.self.now.run.room c.args.self.now.run.indexed c.args.self.now.run.words.now ((sound c.args.self.now.whole) r) r c.args.l c.args.i c.in-Some.x c.in-Some.ensures.0) (goes_to c.args.self.now.run.room c.args.self.now.run.indexed c.args.self.now.run.words.now ((sound c.args.self.now.whole) r) r c.args.l c.args.i c.in-Some.x c.in-Some.ensures.0))) (retired_lawful c.args.l c.args.i (meaning_of c.args.self.now.run.room c.args.self.now.run.indexed c.args.self.now.run.words.now) (law (meaning_of c.args.self.now.run.room c.args.self.now.run.indexed c.args.self.now.run.words.now) c.args.self.now.law) c.in-Some.ensures.1))
 
 pub returns : goal.returns
 returns c =
     let r = at_room c.args.self.now.run.room c.args.self.now.run.indexed c.args.self.now.run.words.now (sound c.args.self.now.whole) c.in-Some.x c.args.l c.args.i c.in-Some.ensures.0 in
     record {
       when = sym (remove_stands c.args.self.now.run.room c.args.self.now.run.indexed c.args.self.now.run.words.now ((sound c.args.self.now.whole) r) r c.args.l c.args.i c.in-Some.x c.in-Some.ensures.0);
-      makes = same_fields c.args.self.now.run.room c.put-by.new.self.room c.args.self.now.run.indexed c.put-by.new.self.indexed c.put-by.new.self.words.now c.put-by.ensures.same.0 c.put-by.ensures.same.1 ∙ ap (meaning_of c.args.self.now.run.room c.args.self.now.run.indexed) c.put-by.ensures.words ∙ retired_meaning c.args.self.now.run.room c.args.self.now.run.indexed c.args.self.now.run.words.now ((sound c.args.self.now.whole) r) r c.args.l c.args.i c.in-Some.x c.in-Some.ensures.0 (goes c.args.self.now.run.room c.args.self.now.run.indexed c.args.self.now.run.words.now ((sound c.args.self.now.whole) r) r c.args.l c.args.i c.in-Some.x c.in-Some.ensures.0) (goes_to c.args.self.now.run.room c.args.self.now.run.indexed c.args.self.now.run.words.now ((sound c.args.self.now.whole) r) r c.args.l c.args.i c.in-Some.x c.in-Some.ensures.0);
+      makes = same_fields c.args.self.now.run.room c.put_by.new.self.room c.args.self.now.run.indexed c.put_by.new.self.indexed c.put_by.new.self.words.now c.put_by.ensures.same.0 c.put_by.ensures.same.1 ∙ ap (meaning_of c.args.self.now.run.room c.args.self.now.run.indexed) c.put_by.ensures.words ∙ retired_meaning c.args.self.now.run.room c.args.self.now.run.indexed c.args.self.now.run.words.now ((sound c.args.self.now.whole) r) r c.args.l c.args.i c.in-Some.x c.in-Some.ensures.0 (goes c.args.self.now.run.room c.args.self.now.run.indexed c.args.self.now.run.words.now ((sound c.args.self.now.whole) r) r c.args.l c.args.i c.in-Some.x c.in-Some.ensures.0) (goes_to c.args.self.now.run.room c.args.self.now.run.indexed c.args.self.now.run.words.now ((sound c.args.self.now.whole) r) r c.args.l c.args.i c.in-Some.x c.in-Some.ensures.0);
     }
