@@ -1,8 +1,7 @@
 -- The head of an image. Assumes nothing.
-use Rattle.std.proofs.Common.{◌≡◌, ℕ, zero, suc, ◌+◌, ◌-◌, ◌<◌, ◌≤◌, min, Bool, true, false, cond, ◌&&◌, eqb, ltb, leb, List, [], ◌∷◌, ◌++◌, length, get_or, take, drop, Ok, Err, Result, sym, refl, ap, ◌∙◌, subst, ⊎_elim, add-one, arith, length-drop}
+use Rattle.std.proofs.Common.{◌≡◌, ℕ, zero, suc, ◌+◌, ◌-◌, ◌<◌, ◌≤◌, min, Bool, true, false, cond, ◌&&◌, eqb, ltb, leb, List, [], length, get_or, drop, Ok, Err, sym, refl, ap, ◌∙◌, ⊎_elim, add-one, arith, length-drop}
 use Rattle.std.proofs.lemmas.List.{get_or_past, length-take, nil_from_length, take_all}
-use Rattle.std.proofs.lemmas.Bool.{cases_lt, cond_both, lt-ltb, le-ltb, and_parts, and_from, cases_eq, leb-true, eqb-true, le-leb, lt-leb, eq-eqb, ne_eqb, cond-true, cond-false}
-use Rattle.std.proofs.lemmas.Bool.Decides.{nat_tests}
+use Rattle.std.proofs.lemmas.Bool.{cases_lt, cond_both, lt-ltb, le-ltb, and_parts, and_from, cases_eq, leb-true, eqb-true, le-leb, eq-eqb, cond-true, cond-false}
 use Rattle.image.specs.Faults.{fault}
 use Rattle.image.specs.Headers.{top, offset, climbs, headed, between, run}
 

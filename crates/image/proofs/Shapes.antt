@@ -1,7 +1,7 @@
 -- The clauses of a run under a test. Assumes nothing.
 use Rattle.std.proofs.Common.{◌≡◌, ℕ, zero, suc, ◌+◌, ◌<◌, ◌≤◌, Bool, true, false, cond, ◌&&◌, ltb, List, [], ◌∷◌, ◌++◌, length, get_or, take, drop, Ok, Err, Result, sym, refl, ap, ◌∙◌, arith, length-append, length-drop}
 use Rattle.std.proofs.lemmas.List.{at_drop_more, at_drop_all, take_rest, take_at, drop_at}
-use Rattle.std.proofs.lemmas.Bool.{cond-true, cond-false, cond_both, both_ways, not-true, and_parts, lt-ltb, le-ltb}
+use Rattle.std.proofs.lemmas.Bool.{cond-true, cond-false, both_ways, not-true, and_parts, lt-ltb, le-ltb}
 use Rattle.std.proofs.lemmas.Bool.Decides.{nat_tests}
 use Rattle.network.specs.Assignments.{node}
 use Rattle.network.specs.Clauses.{owner, in_order, in_order_from}
@@ -9,7 +9,7 @@ use Rattle.network.specs.Lists.{all_of}
 use Rattle.image.specs.Faults.{fault, tested, ◌then◌}
 use Rattle.image.specs.declared.fault.Fault.{Fault}
 use Rattle.image.specs.Runs.{Front, length_fits, front_cut, whole_by, whole, clauses_by, clauses, clauses_pass_by, clauses_pass}
-use Rattle.image.proofs.Walks.{whole_step, clauses_step, rest_of}
+use Rattle.image.proofs.Walks.{rest_of}
 
 module _ (p : List ℕ → Bool) (f : Fault) (n : ℕ) where
   -- more looks than words change nothing

@@ -1,5 +1,5 @@
 -- The header of an image: the highest node, the number of clauses, and where each node's run begins and ends. Assumes nothing.
-use Rattle.std.specs.Prelude.{ℕ, zero, suc, ◌+◌, ◌-◌, Bool, true, cond, ◌&&◌, List, [], length, ◌==◌, nat_le, nat_lt, slice_index, slice_range}
+use Rattle.std.specs.Prelude.{ℕ, zero, suc, ◌+◌, Bool, true, cond, ◌&&◌, List, [], length, ◌==◌, nat_le, nat_lt, slice_index, slice_range}
 
 -- word 0, the highest node
 abbrev pub top : List ℕ → ℕ

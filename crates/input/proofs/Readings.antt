@@ -1,8 +1,8 @@
 -- The steps of reading an input. Assumes nothing.
-use Rattle.std.proofs.Common.{◌≡◌, ℕ, zero, suc, ◌+◌, ◌-◌, ◌*◌, ◌%◌, ◌<◌, ◌≤◌, Bool, true, false, cond, ◌&&◌, eqb, leb, List, [], ◌∷◌, ◌++◌, length, get_or, take, drop, set, Ok, Err, Result, sym, refl, ap, ◌∙◌, subst, add-one, arith, length-drop}
+use Rattle.std.proofs.Common.{◌≡◌, ℕ, zero, suc, ◌+◌, ◌-◌, ◌*◌, ◌%◌, ◌<◌, ◌≤◌, Bool, true, false, ◌&&◌, eqb, leb, List, [], ◌∷◌, ◌++◌, length, get_or, take, drop, set, Ok, Err, Result, sym, refl, ap, ◌∙◌, subst, add-one, arith, length-drop}
 use Rattle.std.proofs.lemmas.List.{drop-drop, take_rest, take_more_set, append_assoc, append-nil, at_drop_more, at_drop_all}
-use Rattle.std.proofs.lemmas.Bool.{and_from, eq-eqb, eqb-true, leb-true, le-leb, lt-leb, cond-true, cond-false}
-use Rattle.image.specs.Faults.{fault, tested, ◌then◌}
+use Rattle.std.proofs.lemmas.Bool.{and_from, eq-eqb, eqb-true, leb-true, le-leb, cond-true, cond-false}
+use Rattle.image.specs.Faults.{fault, ◌then◌}
 use Rattle.intake.specs.Answers.{take_in_answer, froze_answer}
 use Rattle.intake.proofs.Steps.{then_at, then_stop}
 use Rattle.image.specs.declared.fault.Fault.{Fault}

@@ -1,6 +1,6 @@
 -- An input: at most 65,536 bytes, as little-endian words a count, that many nodes to freeze, an image. Assumes nothing.
 use Rattle.std.specs.Prelude.{◌≡◌, ℕ, ◌+◌, ◌*◌, ◌%◌, Bool, true, cond, ◌&&◌, List, [], ◌∷◌, length, take, drop, Ok, Err, Result, ◌==◌, nat_le, slice_set}
-use Rattle.image.specs.Faults.{fault, tested, ◌then◌}
+use Rattle.image.specs.Faults.{fault, ◌then◌}
 use Rattle.image.specs.declared.fault.Fault.{Fault}
 use Rattle.intake.specs.Answers.{take_in_answer, froze_answer, only_zero}
 

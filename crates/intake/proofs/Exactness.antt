@@ -1,16 +1,16 @@
 -- Each answer of take-in on its ground, and on no other. Assumes nothing.
-use Rattle.std.proofs.Common.{◌≡◌, ℕ, zero, suc, ◌+◌, ◌-◌, ◌^◌, ◌<◌, ◌≤◌, Bool, true, false, cond, not, ◌&&◌, eqb, leb, ◌⊎◌, ◌↔◌, List, [], ◌∷◌, ◌++◌, length, get_or, Ok, Err, Result, sym, refl, ap, ◌∙◌, subst, inl, inr, ⊎_elim, arith}
-use Rattle.std.proofs.lemmas.Bool.{cond-true, cond-false, ne_eqb, le-leb, lt-leb, cases_lt, both_ways}
+use Rattle.std.proofs.Common.{◌≡◌, ℕ, suc, ◌-◌, ◌^◌, ◌<◌, ◌≤◌, Bool, true, false, cond, eqb, leb, List, length, Ok, Err, Result, sym, refl, ap, ◌∙◌, subst, inl, inr, ⊎_elim, arith}
+use Rattle.std.proofs.lemmas.Bool.{cond-true, cond-false, ne_eqb, le-leb, cases_lt, both_ways}
 use Rattle.network.specs.Lists.{all_of}
 use Rattle.image.specs.Faults.{fault, ◌then◌, tested}
 use Rattle.image.specs.Runs.{whole, clauses}
 use Rattle.network.specs.Clauses.{in_order, owned}
 use Rattle.network.specs.Rows.{lower, no_value, some_row, Narrow, Clash}
-use Rattle.intake.specs.Answers.{searched, rows_answer, node_answer, nodes_answer, take_in_answer}
+use Rattle.intake.specs.Answers.{rows_answer, node_answer, nodes_answer, take_in_answer}
 use Rattle.network.proofs.Rows.{narrow_from, narrow_back, valued_from}
 use Rattle.intake.proofs.Searching.{searched_clash}
 use Rattle.image.specs.Headers.{top, stated_count, headed, run}
-use Rattle.intake.specs.Accepted.{Formed, IllFormed, total, Image, Refused, Answers, Exactly}
+use Rattle.intake.specs.Accepted.{Formed, IllFormed, total, Refused, Answers, Exactly}
 use Rattle.intake.proofs.Steps.{then_at, then_stop, rows_wide, nodes_stop, nodes_stay}
 use Rattle.intake.proofs.Meanings.{uncut_from, uncut_back, sorted_from, sorted_back, owned_from, owned_back, NodesAnswers, nodes_means, header_from, header_back, formed_not, answer_means, accepted_iff}
 use Rattle.image.specs.declared.fault.Fault.{Fault}

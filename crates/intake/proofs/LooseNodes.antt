@@ -1,20 +1,19 @@
 -- The network of an accepted image, and its loose nodes. Assumes nothing.
-use Rattle.std.proofs.Common.{◌≡◌, ℕ, zero, suc, ◌+◌, ◌-◌, ◌<◌, ◌≤◌, Bool, true, false, cond, not, ◌&&◌, ◌||◌, ◌⊎◌, ◌↔◌, List, [], ◌∷◌, ◌++◌, get_or, Some, None, Ok, Err, Option, Result, sym, refl, ap, ◌∙◌, subst, inl, inr, ⊎_elim, add-one, arith}
-use Rattle.std.proofs.lemmas.Bool.{cond-true, cond-false, cond_both, cases_Bool, cases_lt, and_parts, and_from, both_ways, not-true, not_from_false}
-use Rattle.network.specs.Assignments.{Assignment, node, lit, put, sat}
+use Rattle.std.proofs.Common.{◌≡◌, ℕ, zero, suc, ◌+◌, ◌-◌, ◌<◌, ◌≤◌, Bool, true, false, cond, not, ◌&&◌, ◌||◌, List, [], ◌∷◌, ◌++◌, get_or, Some, Ok, sym, refl, ap, ◌∙◌, subst, inl, inr, ⊎_elim, add-one, arith}
+use Rattle.std.proofs.lemmas.Bool.{cond-true, cond-false, cond_both, cases_Bool, cases_lt, and_from, both_ways}
+use Rattle.network.specs.Assignments.{Assignment, lit, put, sat}
 use Rattle.network.specs.Clauses.{owner, Ordered, Rising}
-use Rattle.network.specs.Levels.{Below, Total, Unique}
+use Rattle.network.specs.Levels.{Total, Unique}
 use Rattle.network.specs.Lists.{In}
-use Rattle.network.specs.Networks.{Network, level, WellPlaced, Gates}
+use Rattle.network.specs.Networks.{level, WellPlaced}
 use Rattle.network.specs.Rows.{Tight, Loose}
 use Rattle.network.proofs.Lists.{in_cases, in_left, in_right}
 use Rattle.image.specs.Headers.{top, stated_count, run}
 use Rattle.image.specs.Runs.{clauses}
-use Rattle.image.specs.declared.fault.Fault.{Fault}
 use Rattle.image.proofs.Heads.{run_past}
 use Rattle.image.proofs.Walks.{clauses_none}
-use Rattle.intake.specs.Accepted.{Once, Formed, Image, taken_in, LooseNode, EveryNodeHasAValue, LooseNodesAreFound, ReadyToStart}
-use Rattle.intake.specs.Answers.{rows_answer, accepts, found_both, loose_at, loose_nodes, first_of}
+use Rattle.intake.specs.Accepted.{Once, Image, taken_in, LooseNode, EveryNodeHasAValue, LooseNodesAreFound, ReadyToStart}
+use Rattle.intake.specs.Answers.{accepts, found_both, loose_at, loose_nodes, first_of}
 use Rattle.intake.proofs.Meanings.{accepted_iff, rows_mean, RowsAnswers}
 use Rattle.intake.proofs.Steps.{accepts_from, accepted_parts, nodes_at}
 

@@ -1,20 +1,19 @@
 -- What take-in tells, in the words of the subject. Assumes nothing.
-use Rattle.std.proofs.Common.{◌≡◌, ℕ, zero, suc, ◌+◌, ◌-◌, ◌*◌, ◌/◌, ◌%◌, ◌^◌, ◌<◌, ◌≤◌, Bool, true, false, cond, not, ◌&&◌, ◌||◌, eqb, ltb, leb, ◌⊎◌, ◌↔◌, List, [], ◌∷◌, ◌++◌, length, get_or, take, drop, Ok, Err, Result, sym, refl, ap, ◌∙◌, subst, inl, inr, ⊎_elim, arith, length-drop}
+use Rattle.std.proofs.Common.{◌≡◌, ℕ, zero, suc, ◌+◌, ◌^◌, ◌<◌, ◌≤◌, Bool, true, false, cond, eqb, ltb, leb, ◌⊎◌, ◌↔◌, List, [], ◌∷◌, ◌++◌, length, take, drop, Ok, Err, Result, sym, refl, ap, ◌∙◌, subst, inl, inr, ⊎_elim, arith, length-drop}
 use Rattle.std.proofs.lemmas.List.{take-append-drop, length-take-le}
-use Rattle.std.proofs.lemmas.Bool.{cond-true, cond-false, cond_both, eq-eqb, ne_eqb, eqb-true, eqb-false, cases_Bool, cases_eq, and_parts, and_from, lt-ltb, ltb-true, le-leb, leb-true, leb-false, both_ways}
-use Rattle.std.proofs.lemmas.Bool.Decides.{nat_tests}
+use Rattle.std.proofs.lemmas.Bool.{cond-true, cond-false, eq-eqb, eqb-true, eqb-false, cases_Bool, cases_eq, and_parts, and_from, lt-ltb, ltb-true, le-leb, leb-true, leb-false, both_ways}
 use Rattle.network.specs.Clauses.{owner, in_order_from, in_order, owned, Rising}
-use Rattle.network.specs.Assignments.{Assignment, node, put, sat}
+use Rattle.network.specs.Assignments.{node}
 use Rattle.network.specs.Lists.{In, all_of}
 use Rattle.network.proofs.Lists.{all_at, all_from}
 use Rattle.image.specs.Faults.{fault, ◌then◌, tested}
 use Rattle.image.specs.Runs.{length_fits, whole_by, whole, clauses_by, clauses, written}
 use Rattle.image.proofs.Walks.{whole_put, clauses_put, whole_end, clauses_end}
-use Rattle.network.specs.Rows.{lower, row, allows, no_value, two_values, some_row, Narrow, Valued, Tight, Clash, Loose}
+use Rattle.network.specs.Rows.{lower, no_value, some_row, Narrow, Valued, Tight, Clash, Loose}
 use Rattle.intake.specs.Answers.{searched, rows_answer, node_answer, nodes_answer, take_in_answer}
 use Rattle.image.specs.Headers.{top, stated_count, offset, climbs, headed, run}
 use Rattle.intake.specs.Accepted.{Header, Uncut, Once, Sorted, OwnedBy, Formed, IllFormed, total, Image, Refused, Answers, ReadBack}
-use Rattle.image.proofs.Heads.{Head, head_from, headed_from, climbs_at, climbs_none, climbs_more}
+use Rattle.image.proofs.Heads.{head_from, headed_from, climbs_at, climbs_none, climbs_more}
 use Rattle.intake.proofs.Steps.{then_at, then_stop, nodes_none, nodes_more}
 use Rattle.network.proofs.Rows.{narrow_from, narrow_back, valued_from, tight_from, clash_from, loose_from}
 use Rattle.image.specs.declared.fault.Fault.{Fault}

@@ -1,12 +1,11 @@
 -- The search through the rows. Assumes nothing.
-use Rattle.std.proofs.Common.{◌≡◌, ℕ, zero, suc, ◌+◌, ◌-◌, ◌*◌, ◌/◌, ◌%◌, ◌^◌, ◌<◌, ◌≤◌, Bool, true, false, cond, not, ◌&&◌, ◌||◌, eqb, List, [], ◌∷◌, ◌++◌, length, get_or, drop, Ok, Err, Result, sym, refl, ap, ◌∙◌, subst, add-one, arith}
+use Rattle.std.proofs.Common.{◌≡◌, ℕ, zero, suc, ◌+◌, ◌*◌, ◌/◌, ◌%◌, ◌^◌, ◌<◌, ◌≤◌, Bool, true, false, not, ◌&&◌, ◌||◌, eqb, List, [], length, get_or, drop, Ok, Err, sym, refl, ap, ◌∙◌, arith}
 use Rattle.std.proofs.lemmas.List.{at_drop_more, at_drop_all}
 use Rattle.std.proofs.lemmas.Bool.{cond-true, cond-false, eq-eqb, ne_eqb}
-use Rattle.std.proofs.lemmas.Bool.Decides.{nat_tests, Decides-below_or}
 use Rattle.network.specs.Assignments.{Assignment, put, holds, sat}
-use Rattle.image.specs.Runs.{Front, whole, clauses}
+use Rattle.image.specs.Runs.{Front, clauses}
 use Rattle.image.specs.Faults.{fault}
-use Rattle.image.proofs.Walks.{whole_on, whole_none, clauses_on, clauses_none}
+use Rattle.image.proofs.Walks.{clauses_on, clauses_none}
 use Rattle.network.specs.Rows.{row, allows, no_value, two_values, some_row}
 use Rattle.network.proofs.Rows.{some_at, some_none, some_more}
 use Rattle.intake.specs.Answers.{searched}

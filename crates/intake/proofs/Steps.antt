@@ -1,13 +1,13 @@
 -- What take-in answers, step by step. Assumes nothing.
-use Rattle.std.proofs.Common.{◌≡◌, ℕ, zero, suc, ◌+◌, ◌-◌, ◌<◌, ◌≤◌, min, Bool, true, false, cond, not, ◌&&◌, eqb, leb, List, [], ◌∷◌, ◌++◌, length, get_or, take, drop, Some, None, Ok, Err, Option, Result, sym, refl, ap, ◌∙◌, subst, ⊎_elim, add-one, arith, length-drop}
-use Rattle.std.proofs.lemmas.List.{length-take, length-drop as length_rest}
-use Rattle.std.proofs.lemmas.Bool.{cases_lt, leb-true, eqb-true, le-leb, lt-leb, eq-eqb, ne_eqb, cond-true, cond-false, cases_eq, and_right}
+use Rattle.std.proofs.Common.{◌≡◌, ℕ, zero, suc, ◌+◌, ◌-◌, ◌<◌, ◌≤◌, Bool, true, false, cond, eqb, List, [], ◌∷◌, length, drop, Ok, Err, Result, sym, refl, ap, ◌∙◌, subst, ⊎_elim, add-one, arith, length-drop}
+use Rattle.std.proofs.lemmas.List.{length-take}
+use Rattle.std.proofs.lemmas.Bool.{cases_lt, eqb-true, le-leb, lt-leb, eq-eqb, ne_eqb, cond-true, cond-false, cases_eq}
 use Rattle.network.specs.Lists.{all_of}
 use Rattle.image.specs.Faults.{fault, ◌then◌, tested}
 use Rattle.image.specs.Runs.{whole, clauses, clauses_by, clauses_pass}
 use Rattle.network.specs.Clauses.{in_order, owned}
 use Rattle.network.specs.Rows.{lower}
-use Rattle.intake.specs.Answers.{searched, rows_answer, node_answer, nodes_answer, take_in_answer, accepts, found_both, loose_at}
+use Rattle.intake.specs.Answers.{searched, rows_answer, node_answer, nodes_answer, take_in_answer, accepts}
 use Rattle.image.specs.Headers.{top, stated_count, offset, headed, run}
 use Rattle.image.proofs.Walks.{whole_end, whole_none}
 use Rattle.image.proofs.Shapes.{pass_whole}

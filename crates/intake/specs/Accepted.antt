@@ -1,6 +1,6 @@
 -- What an image that take-in accepts is, and what is wrong with one that it refuses, in the words of the subject. Assumes nothing.
 use Rattle.std.specs.Prelude.{◌≡◌, ℕ, zero, suc, ◌+◌, ◌<◌, ◌≤◌, Bool, true, false, ◌⊎◌, ◌↔◌, List, [], ◌∷◌, length, get_or, Ok, Err, Result, ◌≢◌, slice_index_or}
-use Rattle.network.specs.Assignments.{Assignment, node, put, sat}
+use Rattle.network.specs.Assignments.{node}
 use Rattle.network.specs.Clauses.{Rising, owner}
 use Rattle.network.specs.Levels.{Total}
 use Rattle.network.specs.Lists.{In}

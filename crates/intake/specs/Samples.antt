@@ -1,5 +1,5 @@
 -- Small images, and what take-in answers. Assumes nothing.
-use Rattle.std.specs.Prelude.{◌≡◌, ℕ, true, false, List, [], ◌∷◌, Ok, Err}
+use Rattle.std.specs.Prelude.{◌≡◌, true, false, [], ◌∷◌, Ok, Err}
 use Rattle.image.specs.Faults.{fault}
 use Rattle.intake.specs.Answers.{take_in_answer, loose_at}
 

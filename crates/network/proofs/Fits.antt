@@ -1,7 +1,7 @@
 -- The walks of `fits` and `part_of` on any lists, and what their answers say of clauses in order. Assumes nothing.
 use Rattle.std.proofs.Common.{◌≡◌, ℕ, ◌<◌, ◌≤◌, Bool, true, false, eqb, ltb, ◌⊎◌, ◌↔◌, List, [], ◌∷◌, length, Some, None, Option, refl, ap, subst, inl, inr, arith}
 use Rattle.std.proofs.lemmas.Bool.{both_ways, cond_both, eqb-true, eqb-false, ltb-true, ltb-false}
-use Rattle.network.specs.Assignments.{node, opposite}
+use Rattle.network.specs.Assignments.{node}
 use Rattle.network.specs.Lists.{In}
 use Rattle.network.specs.Clauses.{Rising, Ordered, Subsumes}
 use Rattle.network.specs.Subsumption.{Strengthens, part_of, opposite_noted, fits_from, fits_but_one, Fitted, test_answer, fits}

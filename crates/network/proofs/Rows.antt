@@ -1,13 +1,12 @@
 -- From rows to assignments. Assumes nothing.
-use Rattle.std.proofs.Common.{◌≡◌, ℕ, zero, suc, ◌+◌, ◌-◌, ◌*◌, ◌/◌, ◌%◌, ◌^◌, ◌<◌, ◌≤◌, Bool, true, false, cond, not, ◌&&◌, ◌||◌, eqb, ◌⊎◌, ◌↔◌, List, [], ◌∷◌, ◌++◌, length, sym, refl, ap, ◌∙◌, subst, inl, inr, ⊎_elim, add-one, arith}
+use Rattle.std.proofs.Common.{◌≡◌, ℕ, zero, suc, ◌+◌, ◌*◌, ◌/◌, ◌%◌, ◌^◌, ◌<◌, ◌≤◌, Bool, true, false, cond, not, ◌&&◌, ◌||◌, eqb, ◌⊎◌, ◌↔◌, List, [], ◌∷◌, ◌++◌, length, sym, refl, ap, ◌∙◌, subst, inl, inr, ⊎_elim, add-one, arith}
 use Rattle.std.proofs.lemmas.Bool.{both_ways, and_parts, and_from, cond-true, cond-false, cond_both, eq-eqb, eqb-true, eqb-false, cases_Bool}
 use Rattle.std.proofs.lemmas.Bool.Decides.{nat_tests}
 use Rattle.network.specs.Clauses.{has}
-use Rattle.network.specs.Assignments.{Assignment, node, put, lit, holds, sat, AgreeOn}
-use Rattle.network.specs.Lists.{In, any_of, all_of}
-use Rattle.network.proofs.Lists.{has_in, in_left, in_right, in_cases, any_some, any_from}
+use Rattle.network.specs.Assignments.{Assignment, node, put, holds, sat, AgreeOn}
+use Rattle.network.specs.Lists.{In, all_of}
+use Rattle.network.proofs.Lists.{has_in, in_left, in_right, in_cases, any_from}
 use Rattle.network.proofs.Holding.{holds_agree}
-use Rattle.network.proofs.Literals.{put_here, put_apart}
 use Rattle.network.specs.Rows.{noted, noted_in, noted_all, lower, row, allows, no_value, two_values, some_row, clashes, is_loose, Narrow, Valued, Tight, Clash, Loose}
 
 -- k is accounted for: 0, n or one of xs

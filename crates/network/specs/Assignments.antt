@@ -1,6 +1,6 @@
 -- Literals, and what clauses say of an assignment. Literal 2n says that node n is true, 2n + 1 that it is false.
 -- Assumes nothing.
-use Rattle.std.specs.Prelude.{◌≡◌, ℕ, ◌+◌, ◌-◌, ◌/◌, ◌%◌, ◌<◌, Bool, true, false, cond, not, List, ◌==◌}
+use Rattle.std.specs.Prelude.{◌≡◌, ℕ, ◌+◌, ◌-◌, ◌/◌, ◌%◌, ◌<◌, Bool, cond, not, List, ◌==◌}
 use Rattle.network.specs.Lists.{In, any_of, all_of}
 
 -- an assignment gives each node a value

@@ -1,6 +1,6 @@
 -- Clauses as lists of literals: their order, their owner, and one as part of another.
 -- Assumes nothing.
-use Rattle.std.specs.Prelude.{ℕ, ◌<◌, Bool, true, false, not, ◌&&◌, List, [], ◌∷◌, length, filter, ◌==◌, nat_eq, nat_le, nat_lt}
+use Rattle.std.specs.Prelude.{ℕ, ◌<◌, Bool, true, not, ◌&&◌, List, [], ◌∷◌, length, filter, ◌==◌, nat_eq, nat_le, nat_lt}
 use Rattle.network.specs.Assignments.{node}
 use Rattle.network.specs.Lists.{In, any_of}
 

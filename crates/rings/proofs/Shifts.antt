@@ -1,14 +1,14 @@
 -- Nodes moved from ring to ring. Assumes nothing.
-use Rattle.std.proofs.Common.{◌≡◌, ℕ, zero, suc, ◌+◌, ◌-◌, ◌*◌, ◌<◌, ◌≤◌, Bool, true, false, cond, not, eqb, ltb, ◌⊎◌, List, [], ◌∷◌, ◌++◌, length, get_or, take, drop, set, sym, refl, ap, ◌∙◌, subst, inl, inr, arith, length-set}
+use Rattle.std.proofs.Common.{◌≡◌, ℕ, zero, suc, ◌+◌, ◌-◌, ◌*◌, ◌<◌, ◌≤◌, eqb, List, [], ◌∷◌, ◌++◌, length, get_or, take, drop, set, sym, refl, ap, ◌∙◌, subst, inl, inr, arith, length-set}
 use Rattle.std.specs.List.{AllByRecursion as All}
 use Rattle.std.proofs.lemmas.Bool.{cases_eq, cond-true, cond-false, eq-eqb, ne_eqb}
-use Rattle.std.proofs.lemmas.List.{length_push, nil_from_length, set_past, set-get_or, length-take-le, get_or-take, get_or_at}
+use Rattle.std.proofs.lemmas.List.{set_past, set-get_or, length-take-le, get_or-take}
 use Rattle.std.proofs.ByRecursion.{All-get_or, All-from_get_or, All-weaker}
-use Rattle.rings.specs.Rings.{Lacks, Differ, next, prev, Path, walk, ring, Knit, Rings, Held, unlinked, linked, without, before, drop_at, at, Place, swapped}
-use Rattle.rings.proofs.Paths.{path_prev, path_next, without_here, without_other}
-use Rattle.rings.proofs.Holes.{before_all, before_end, before_none, without_lacks, without_all, apart_from, without_gone}
-use Rattle.rings.proofs.Drops.{at_here, at_else, without_at, drop_at_all, drop_at_last, drop_at_differ, drop_at_length, instead}
-use Rattle.rings.proofs.Words.{Slots, ring_is, ring_slots, ring_differ, ring_few, not_alone, alone_lacks, unlinked_alone, unlinked_length, unlinked_drop, unlinked_ring, unlinked_held, linked_length, linked_drop, linked_ring, linked_held, unlinked_unlinks, linked_links}
+use Rattle.rings.specs.Rings.{Lacks, Differ, next, prev, Path, ring, Held, unlinked, linked, without, before, drop_at, at, swapped}
+use Rattle.rings.proofs.Paths.{path_prev, path_next}
+use Rattle.rings.proofs.Holes.{before_end, before_none, without_lacks, apart_from}
+use Rattle.rings.proofs.Drops.{at_here, at_else, without_at, drop_at_last, drop_at_differ, instead}
+use Rattle.rings.proofs.Words.{ring_is, ring_slots, ring_differ, not_alone, alone_lacks, unlinked_alone, unlinked_drop, unlinked_ring, unlinked_held, linked_drop, linked_ring, linked_held, unlinked_unlinks, linked_links}
 
 -- the one before the end of a path
 pub path_last : (nx pv : ℕ → ℕ) (a : ℕ) (xs : List ℕ) (b : ℕ) → Path nx pv a xs b → pv b ≡ get_or (a ∷ xs) (length xs) 0

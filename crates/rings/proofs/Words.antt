@@ -1,11 +1,11 @@
 -- Rings in words, and what the two writers do to them. Assumes nothing.
-use Rattle.std.proofs.Common.{◌≡◌, ℕ, zero, suc, ◌+◌, ◌-◌, ◌*◌, ◌<◌, ◌≤◌, Bool, true, false, cond, not, eqb, ltb, ◌⊎◌, List, [], ◌∷◌, ◌++◌, length, get_or, drop, set, filter, sym, refl, ap, ◌∙◌, subst, inl, inr, ⊎_elim, arith, length-set}
+use Rattle.std.proofs.Common.{◌≡◌, ℕ, zero, suc, ◌+◌, ◌*◌, ◌<◌, ◌≤◌, ltb, List, [], ◌∷◌, length, get_or, drop, set, sym, refl, ap, ◌∙◌, subst, inl, inr, arith, length-set}
 use Rattle.std.specs.List.{AllByRecursion as All}
-use Rattle.std.proofs.lemmas.Bool.{cases_eq, cases_lt, cond_both, cond-true, cond-false, eq-eqb, ne_eqb}
+use Rattle.std.proofs.lemmas.Bool.{cases_eq, cond_both}
 use Rattle.std.proofs.lemmas.List.{get_or-set_same, get_or-set_other, drop-set-lt}
-use Rattle.std.proofs.ByRecursion.{All-get_or, All-from_get_or, All-push}
-use Rattle.rings.specs.Rings.{Lacks, Differ, next, prev, Path, walk, ring, Knit, Rings, Held, Apart, unlinked, linked, without, before}
-use Rattle.rings.proofs.Paths.{Unlinks, Links, unlink_path, link_path, path_prev, path_next, walk_path, walk_slots}
+use Rattle.std.proofs.ByRecursion.{All-get_or, All-from_get_or}
+use Rattle.rings.specs.Rings.{Lacks, Differ, next, prev, Path, walk, ring, Knit, Held, unlinked, linked, without, before}
+use Rattle.rings.proofs.Paths.{Unlinks, Links, unlink_path, link_path, path_prev, walk_path, walk_slots}
 use Rattle.rings.proofs.Holes.{before_all, few, path_differ, without_all, apart_from}
 
 walk_within : (nx : ℕ → ℕ) (heads nodes k x : ℕ) → ((n : ℕ) → n < nodes → nx n < nodes) → x < nodes → All (λ y. y < nodes) (walk nx heads k x)

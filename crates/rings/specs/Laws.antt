@@ -1,6 +1,6 @@
 -- What the writers of rings make of the lists, and what the reader finds. Assumes nothing.
-use Rattle.std.specs.Prelude.{◌≡◌, ℕ, suc, ◌+◌, ◌-◌, ◌*◌, ◌<◌, ◌≤◌, cond, List, [], ◌∷◌, ◌++◌, length, take, drop, Some, None, nat_lt, slice_index, slice_set}
-use Rattle.rings.specs.Rings.{next, ring, Held, Place, Differ, without, drop_at, at, cut_out, put_in, shifted, swapped_out, slot_after, scattered}
+use Rattle.std.specs.Prelude.{◌≡◌, ℕ, suc, ◌-◌, ◌*◌, ◌<◌, ◌≤◌, cond, List, [], ◌∷◌, ◌++◌, length, take, drop, Some, None, nat_lt, slice_index, slice_set}
+use Rattle.rings.specs.Rings.{next, ring, Held, Place, without, drop_at, at, cut_out, put_in, shifted, swapped_out, slot_after, scattered}
 
 -- of words that hold rings, for every ring at once
 pub record RingLaws : Type 0 where

@@ -1,5 +1,5 @@
 -- How large things get over any lawful store. Assumes nothing.
-use Rattle.std.proofs.Common.{◌≡◌, ℕ, zero, suc, ◌+◌, ◌*◌, ◌≤◌, Bool, true, false, not, ltb, ◌⊎◌, List, [], ◌∷◌, length, get_or, Some, None, Option, sym, ◌∙◌, subst, ⊎_elim, arith}
+use Rattle.std.proofs.Common.{◌≡◌, ℕ, zero, suc, ◌+◌, ◌*◌, ◌≤◌, Bool, true, false, not, ltb, List, [], ◌∷◌, length, get_or, Some, None, Option, sym, ◌∙◌, subst, ⊎_elim, arith}
 use Rattle.std.proofs.lemmas.Bool.{cond_both, and_parts, not-true, ltb-true}
 use Rattle.network.specs.Lists.{In}
 use Rattle.network.specs.Values.{simplified}

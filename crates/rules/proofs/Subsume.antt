@@ -1,5 +1,5 @@
 -- subsume_simplify keeps what is kept. Assumes nothing.
-use Rattle.std.proofs.Common.{◌≡◌, ℕ, zero, suc, ◌+◌, ◌-◌, ◌<◌, ◌≤◌, true, cond, not, ◌&&◌, eqb, ltb, ◌⊎◌, List, [], ◌∷◌, map, length, get_or, sym, refl, ap, ◌∙◌, subst, inl, inr, ⊎_elim, arith}
+use Rattle.std.proofs.Common.{◌≡◌, ℕ, zero, suc, ◌+◌, ◌-◌, ◌<◌, ◌≤◌, true, cond, not, ◌&&◌, eqb, ltb, List, [], ◌∷◌, map, length, get_or, sym, refl, ap, ◌∙◌, subst, inl, inr, ⊎_elim, arith}
 use Rattle.std.proofs.lemmas.Bool.{cases_eq, cases_lt, cond_both, ltb-true}
 use Rattle.std.proofs.lemmas.Bool.Decides.{nat_tests}
 use Rattle.network.specs.Assignments.{Assignment, node, opposite, holds}
@@ -25,7 +25,6 @@ use Rattle.rules.proofs.Kept.{well}
 use Rattle.rules.proofs.Verdicts.{Judged, verdict_is, owner_in, equal_rest, owner_without, free_without, owner_of, last_without}
 use Rattle.rules.proofs.Drops.{not_nil, swap_kept, pair_kept}
 use Rattle.rules.proofs.Answers.{retire_yes, shorten_yes, droppable_yes}
-use Rattle.rules.specs.Store as store
 use Rattle.rules.specs.Subsume as work
 use Rattle.rules.specs.Work.{Work, literals_of}
 use Rattle.rules.proofs.Places as places

@@ -15,7 +15,7 @@ use Rattle.network.proofs.Networks.{clause_at}
 use Rattle.image.specs.Headers.{top}
 use Rattle.intake.specs.Accepted.{taken_in}
 use Rattle.rules.specs.Kept.{obey, Known, Idle, Kept}
-use Rattle.rules.specs.Store.{live, up_to, live_clauses}
+use Rattle.rules.specs.Store.{up_to, live_clauses}
 use Rattle.rules.specs.Held.{held}
 use Rattle.rules.specs.Good.{Good}
 use Rattle.rules.specs.Lawful.{Lawful}

@@ -1,18 +1,17 @@
 -- A clause more in a scanned store. Assumes nothing.
-use Rattle.std.proofs.Common.{◌≡◌, ℕ, zero, suc, ◌+◌, ◌-◌, ◌*◌, ◌<◌, ◌≤◌, Bool, true, false, cond, not, ◌&&◌, eqb, ltb, ◌⊎◌, List, [], ◌∷◌, ◌++◌, map, length, get_or, take, drop, set, filter, sym, refl, ap, ◌∙◌, subst, inl, inr, arith}
+use Rattle.std.proofs.Common.{◌≡◌, ℕ, ◌+◌, ◌-◌, ◌*◌, ◌<◌, ◌≤◌, Bool, true, not, ◌&&◌, eqb, ltb, List, [], ◌∷◌, ◌++◌, map, length, get_or, take, drop, sym, refl, ap, ◌∙◌, subst, inl, inr, arith}
 use Rattle.std.specs.List.{AllByRecursion as All}
-use Rattle.std.proofs.lemmas.Bool.{cases_lt, cases_eq, cond-true, cond-false, lt-ltb}
+use Rattle.std.proofs.lemmas.Bool.{cases_lt, cases_eq, cond-true, lt-ltb}
 use Rattle.std.proofs.lemmas.List.{length_push, get_or_at, get_or_append_left}
 use Rattle.std.proofs.ByRecursion.{All-get_or, All-from_get_or, All-push}
-use Rattle.rings.specs.Rings.{ring, next, prev, Held, Place, linked, unlinked, drop_at, at}
+use Rattle.rings.specs.Rings.{next, prev, Held, Place, linked, unlinked, drop_at, at}
 use Rattle.rings.specs.Rings.{Lacks}
 use Rattle.rings.proofs.Drops.{at_here, at_else, drop_at_all, drop_at_length, drop_at_out}
 use Rattle.rings.proofs.Words.{alone_lacks, ring_differ}
 use Rattle.rings.proofs.Shifts.{slot_at, lacks_other, first_is, same_held, same_ring, moved_held, moved_ring, moved_drop, moved_still, moved_length}
 use Rattle.network.specs.Clauses.{last, has, well_formed}
-use Rattle.rules.specs.Store.{Meaning}
 use Rattle.scanned.specs.Sums.{total, any_to}
-use Rattle.scanned.specs.Layout.{node_count, rg, text_at, text_of, was_of, own_of, seq_of, used_of, dead_of, meaning_of, passes, Whole, Sound, At, Wrote, Admitted, Loose}
+use Rattle.scanned.specs.Layout.{node_count, rg, text_at, text_of, was_of, own_of, seq_of, dead_of, passes, Whole, Wrote, Admitted, Loose}
 use Rattle.scanned.proofs.Wholes.{own_is, own_none, own_by}
 use Rattle.scanned.proofs.Totals.{total_same, total_at}
 use Rattle.rings.specs.Rings.{shifted}

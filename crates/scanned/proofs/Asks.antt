@@ -1,20 +1,17 @@
 -- What the questions of a scanned store read. Assumes nothing.
-use Rattle.std.proofs.Common.{◌≡◌, ℕ, zero, suc, ◌+◌, ◌-◌, ◌*◌, ◌<◌, ◌≤◌, Bool, true, false, cond, not, ◌&&◌, eqb, ltb, ◌⊎◌, List, [], ◌∷◌, ◌++◌, map, length, get_or, take, drop, Some, None, filter, Option, sym, refl, ap, ◌∙◌, subst, inl, inr, arith}
-use Rattle.std.specs.List.{AllByRecursion as All}
+use Rattle.std.proofs.Common.{◌≡◌, ℕ, suc, ◌+◌, ◌*◌, ◌<◌, ◌≤◌, Bool, cond, ltb, ◌⊎◌, List, [], ◌∷◌, ◌++◌, length, get_or, Some, None, Option, sym, ap, ◌∙◌, subst, inl, inr, arith}
 use Rattle.std.proofs.lemmas.Bool.{cond-true, cond-false, lt-ltb, le-ltb, cases_lt, cases_eq}
 use Rattle.std.proofs.lemmas.List.{length-map, get_or-map, get_or_append_left, get_or_at}
 use Rattle.std.proofs.ByRecursion.{All-get_or}
-use Rattle.rings.specs.Rings.{ring, next, prev, Held}
+use Rattle.rings.specs.Rings.{next}
 use Rattle.rings.specs.Rings.{slot_after}
 use Rattle.rings.proofs.Bounds.{after_head, after_slot}
 use Rattle.rings.proofs.Words.{ring_few}
 use Rattle.rings.proofs.Shifts.{slot_at, first_is, next_is}
-use Rattle.network.specs.Clauses.{last, has, well_formed}
-use Rattle.rules.specs.Store.{Meaning, clause_at}
+use Rattle.rules.specs.Store.{clause_at}
 use Rattle.scanned.specs.Sums.{total}
-use Rattle.rules.specs.Lawful.{Lawful}
-use Rattle.scanned.specs.Layout.{node_count, rg, text_at, text_of, was_of, own_of, used_of, dead_of, meaning_of, Whole, Sound, At}
-use Rattle.scanned.proofs.Wholes.{own_is, own_none, own_bare, own_by, kept_is, wells_are}
+use Rattle.scanned.specs.Layout.{node_count, rg, text_at, text_of, own_of, meaning_of, Whole, Sound, At}
+use Rattle.scanned.proofs.Wholes.{own_is, own_none, own_bare}
 use Rattle.rules.specs.Store.{live_clauses}
 use Rattle.scanned.proofs.Totals.{total_same, live_total}
 

@@ -1,23 +1,23 @@
 -- The meaning after a clause was entered. Assumes nothing.
-use Rattle.std.proofs.Common.{◌≡◌, ℕ, zero, suc, ◌+◌, ◌-◌, ◌*◌, ◌/◌, ◌<◌, ◌≤◌, Bool, true, false, cond, not, ◌&&◌, ◌||◌, eqb, ltb, ◌⊎◌, List, [], ◌∷◌, ◌++◌, map, length, get_or, take, drop, set, filter, sym, refl, ap, ◌∙◌, subst, inl, inr, arith}
+use Rattle.std.proofs.Common.{◌≡◌, ℕ, zero, suc, ◌+◌, ◌<◌, ◌≤◌, Bool, true, false, cond, not, ◌&&◌, ◌||◌, eqb, ltb, List, [], ◌∷◌, ◌++◌, length, get_or, filter, sym, refl, ap, ◌∙◌, subst, inl, inr, arith}
 use Rattle.std.specs.List.{AllByRecursion as All}
-use Rattle.std.proofs.lemmas.Bool.{cases_lt, cases_eq, cases_Bool, cond-true, cond-false, lt-ltb, le-ltb, and_parts, and_from, and_left, and_right, ltb-true, eq-eqb, ne_eqb, or_left, or_right}
+use Rattle.std.proofs.lemmas.Bool.{cases_eq, cases_Bool, cond-true, cond-false, lt-ltb, le-ltb, and_from, and_right, eq-eqb, ne_eqb, or_left, or_right}
 use Rattle.std.proofs.lemmas.Bool.Decides.{nat_tests}
 use Rattle.std.proofs.lemmas.List.Elements.{filter-append}
 use Rattle.std.proofs.ByRecursion.{all_kept_by, All-weaker}
 use Rattle.std.proofs.lemmas.List.{append-nil}
-use Rattle.rings.specs.Rings.{at, next}
+use Rattle.rings.specs.Rings.{next}
 use Rattle.rings.specs.Rings.{Lacks}
 use Rattle.network.specs.Clauses.{last, front, has, well_formed}
-use Rattle.rules.specs.Store.{Meaning, entered, enterable, kept_clauses}
+use Rattle.rules.specs.Store.{entered, enterable, kept_clauses}
 use Rattle.scanned.specs.Sums.{total, any_to}
 use Rattle.slots.specs.Slots.{meant}
 use Rattle.slots.proofs.Slots.{entered_is}
-use Rattle.scanned.specs.Layout.{node_count, rg, text_at, text_of, was_of, own_of, seq_of, used_of, dead_of, meaning_of, passes, Whole, Sound, Admitted, Joined, Law}
-use Rattle.scanned.proofs.Wholes.{own_is, own_bare}
+use Rattle.scanned.specs.Layout.{rg, text_of, was_of, own_of, seq_of, used_of, dead_of, meaning_of, passes, Whole, Sound, Admitted, Joined, Law}
+use Rattle.scanned.proofs.Wholes.{own_is}
 use Rattle.rules.specs.Lawful.{Lawful}
 use Rattle.scanned.proofs.Laws.{to_law}
-use Rattle.scanned.proofs.Totals.{total_same, total_none}
+use Rattle.scanned.proofs.Totals.{total_same}
 use Rattle.network.specs.Assignments.{node}
 use Rattle.network.specs.Clauses.{Ordered}
 use Rattle.rules.proofs.Formed.{Formed, formed_parts, front_below}

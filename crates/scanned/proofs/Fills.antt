@@ -1,22 +1,21 @@
 -- The words of a new store. Assumes nothing.
-use Rattle.std.proofs.Common.{◌≡◌, ℕ, zero, suc, ◌+◌, ◌-◌, ◌*◌, ◌<◌, ◌≤◌, Bool, true, false, cond, not, ◌&&◌, eqb, ltb, ◌⊎◌, List, [], ◌∷◌, ◌++◌, map, length, get_or, take, drop, set, filter, sym, refl, ap, ◌∙◌, subst, inl, inr, arith}
+use Rattle.std.proofs.Common.{◌≡◌, ℕ, ◌+◌, ◌-◌, ◌*◌, ◌<◌, ◌≤◌, true, false, not, ◌&&◌, eqb, ltb, List, [], ◌∷◌, ◌++◌, map, length, get_or, filter, sym, refl, ap, ◌∙◌, subst, inl, inr, arith}
 use Rattle.std.specs.List.{AllByRecursion as All}
 use Rattle.std.proofs.lemmas.Bool.{cond-true, cond-false, lt-ltb, le-ltb, cases_lt, cases_eq}
-use Rattle.std.proofs.lemmas.List.{length_push, length-set, get_or-set_same, get_or-set_other}
+use Rattle.std.proofs.lemmas.List.{length_push}
 use Rattle.std.proofs.lemmas.Bool.Decides.{nat_tests}
 use Rattle.std.proofs.ByRecursion.{All-push, All-weaker, All-get_or, All-from_get_or}
-use Rattle.rings.specs.Rings.{ring, next, prev, Held, linked, at}
+use Rattle.rings.specs.Rings.{next, prev, linked}
 use Rattle.rings.proofs.Drops.{at_here, at_else}
 use Rattle.rings.proofs.Shifts.{slot_at, lone_ring, lone_held, push_held, push_ring, push_still}
 use Rattle.rings.specs.Rings.{put_in, scattered}
 use Rattle.rings.proofs.Bounds.{put_is, scattered_alone, scattered_length}
 use Rattle.network.specs.Clauses.{has, last}
-use Rattle.rules.specs.Store.{Meaning}
 use Rattle.scanned.specs.Sums.{total}
 use Rattle.scanned.specs.Sums.{blank}
-use Rattle.slots.specs.Slots.{meant, ref}
+use Rattle.slots.specs.Slots.{ref}
 use Rattle.slots.proofs.Slots.{same_meaning}
-use Rattle.scanned.specs.Layout.{node_count, rg, text_at, text_of, was_of, own_of, seq_of, used_of, dead_of, meaning_of, Whole, Sound, Filled, fitting}
+use Rattle.scanned.specs.Layout.{node_count, rg, text_at, text_of, was_of, own_of, seq_of, used_of, dead_of, meaning_of, Whole, Filled, fitting}
 use Rattle.scanned.proofs.Totals.{total_none}
 use Rattle.scanned.proofs.Wholes.{own_bare, own_by}
 

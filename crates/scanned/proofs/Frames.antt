@@ -1,12 +1,11 @@
 -- Words that stay, and clauses that stay with them. Assumes nothing.
-use Rattle.std.proofs.Common.{◌≡◌, ℕ, zero, suc, ◌+◌, ◌-◌, ◌*◌, ◌/◌, ◌<◌, ◌≤◌, min, Bool, true, false, cond, not, ◌&&◌, eqb, ltb, leb, ◌⊎◌, List, [], ◌∷◌, ◌++◌, map, length, get_or, take, drop, set, sym, refl, ap, ◌∙◌, subst, inl, inr, arith, rules}
+use Rattle.std.proofs.Common.{◌≡◌, ℕ, suc, ◌+◌, ◌-◌, ◌<◌, ◌≤◌, min, true, ltb, List, [], ◌∷◌, length, get_or, take, drop, set, sym, refl, ap, ◌∙◌, arith, rules}
 use borrow.Rule.Slice.PartMut.{put_mid}
-use Rattle.std.proofs.lemmas.Bool.{cases_lt, cases_eq, and_parts, and_left, and_right, ltb-true, lt-ltb, le-ltb, le-leb}
-use Rattle.std.proofs.lemmas.List.{ext_get_or, drop_all, drop_more as drop_next, length-take, length-drop, get_or-take, get_or-drop, drop-drop, places, length-set, get_or-set_same, get_or-set_other}
+use Rattle.std.proofs.lemmas.Bool.{lt-ltb, le-leb}
+use Rattle.std.proofs.lemmas.List.{ext_get_or, length-take, length-drop, get_or-take, get_or-drop, drop-drop, places, length-set}
 use Rattle.std.proofs.lemmas.Slice.{overwrites, between-put_mid}
-use Rattle.std.proofs.lemmas.Bool.Decides.{nat_tests}
 use Rattle.network.specs.Clauses.{last, in_order, well_formed}
-use Rattle.scanned.specs.Layout.{node_count, text_at, text_of, was_of, Wrote}
+use Rattle.scanned.specs.Layout.{text_at, text_of, was_of, Wrote}
 
 pub part_same : (ws vs : List ℕ) (a n : ℕ) → length vs ≡ length ws → ((k : ℕ) → a ≤ k → k < a + n → get_or vs k 0 ≡ get_or ws k 0) → take n (drop a vs) ≡ take n (drop a ws)
 part_same ws vs a n l h =

@@ -1,10 +1,10 @@
 -- A slot more in the sequence. Assumes nothing.
-use Rattle.std.proofs.Common.{◌≡◌, ℕ, zero, suc, ◌+◌, ◌-◌, ◌*◌, ◌<◌, ◌≤◌, Bool, true, false, cond, not, ◌&&◌, ◌⊎◌, List, [], ◌∷◌, ◌++◌, map, length, get_or, take, drop, set, sym, refl, ap, ◌∙◌, subst, inl, inr, arith}
+use Rattle.std.proofs.Common.{◌≡◌, ℕ, ◌+◌, ◌-◌, ◌*◌, ◌<◌, ◌≤◌, Bool, true, List, [], ◌∷◌, ◌++◌, map, length, get_or, take, drop, sym, refl, ap, ◌∙◌, subst, inl, inr, arith}
 use Rattle.std.specs.List.{AllByRecursion as All}
 use Rattle.std.proofs.lemmas.Bool.{cases_lt, both_ways}
 use Rattle.std.proofs.lemmas.List.{map_push}
 use Rattle.std.proofs.ByRecursion.{All-get_or, All-from_get_or, All-push, All-weaker}
-use Rattle.rings.specs.Rings.{ring, next, prev, Held, linked, at}
+use Rattle.rings.specs.Rings.{next, Held, linked, at}
 use Rattle.rings.specs.Rings.{Lacks}
 use Rattle.rings.proofs.Drops.{at_here, at_else}
 use Rattle.rings.proofs.Words.{linked_length}
@@ -12,8 +12,8 @@ use Rattle.rings.proofs.Shifts.{slot_at, push_held, push_ring, push_drop, push_s
 use Rattle.rings.specs.Rings.{put_in}
 use Rattle.rings.proofs.Bounds.{put_is}
 use Rattle.network.specs.Clauses.{last, well_formed}
-use Rattle.scanned.specs.Sums.{total, any_to}
-use Rattle.scanned.specs.Layout.{node_count, rg, text_at, text_of, was_of, own_of, seq_of, dead_of, passes, Whole, Joined, Loose}
+use Rattle.scanned.specs.Sums.{any_to}
+use Rattle.scanned.specs.Layout.{node_count, rg, text_at, text_of, was_of, passes, Whole, Joined, Loose}
 use Rattle.scanned.proofs.Wholes.{own_is, own_none}
 use Rattle.scanned.proofs.Totals.{total_same}
 use Rattle.scanned.proofs.Frames.{from_drop, drop_more}

@@ -1,11 +1,11 @@
 -- The index dropped. Assumes nothing.
-use Rattle.std.proofs.Common.{◌≡◌, ℕ, zero, suc, ◌+◌, ◌-◌, ◌*◌, ◌<◌, ◌≤◌, Bool, true, false, cond, not, ◌&&◌, eqb, ltb, ◌⊎◌, List, [], ◌∷◌, ◌++◌, map, length, get_or, take, drop, set, Some, None, filter, Option, sym, refl, ap, ◌∙◌, subst, inl, inr, arith, length-set}
+use Rattle.std.proofs.Common.{◌≡◌, ℕ, ◌+◌, ◌-◌, ◌*◌, ◌<◌, ◌≤◌, Bool, true, false, not, ◌&&◌, eqb, ltb, List, [], ◌∷◌, ◌++◌, map, length, get_or, drop, Some, None, filter, Option, sym, refl, ap, ◌∙◌, subst, inl, inr, arith, length-set}
 use mathlib.Core.Path.{fun_ext}
 use Rattle.std.specs.List.{AllByRecursion as All}
 use Rattle.std.proofs.lemmas.Bool.{cases_lt, cases_eq, cond-true, cond-false, lt-ltb, le-ltb, both_ways}
 use Rattle.std.proofs.lemmas.List.{length_push, nil_from_length}
 use Rattle.std.proofs.ByRecursion.{All-get_or, All-from_get_or, All-push, All-weaker}
-use Rattle.rings.specs.Rings.{Lacks, ring, next, prev, Held, Place, linked, unlinked, drop_at, at, without, cut_out, shifted, slot_after}
+use Rattle.rings.specs.Rings.{Lacks, next, linked, unlinked, drop_at, at, without, cut_out, shifted, slot_after}
 use Rattle.rings.proofs.Holes.{without_all, without_lacks}
 use Rattle.rings.proofs.Drops.{at_here, at_else, drop_at_all, drop_at_length, without_at}
 use Rattle.rings.proofs.Words.{ring_differ}
@@ -13,11 +13,11 @@ use Rattle.rings.proofs.Shifts.{slot_at, Cuts, cuts, moved_held, moved_ring, mov
 use Rattle.rings.proofs.Bounds.{cut_is, shifted_is, after_head}
 use Rattle.network.specs.Clauses.{last, has, well_formed}
 use Rattle.rules.specs.Store.{index_off}
-use Rattle.slots.specs.Slots.{meant, ref}
+use Rattle.slots.specs.Slots.{ref}
 use Rattle.slots.proofs.Slots.{same_meaning}
 use Rattle.scanned.specs.Sums.{total, any_to}
-use Rattle.scanned.specs.Layout.{node_count, rg, text_at, text_of, was_of, own_of, seq_of, used_of, dead_of, meaning_of, passes, Whole, Sound, Kin}
-use Rattle.scanned.proofs.Wholes.{own_is, own_none, own_bare}
+use Rattle.scanned.specs.Layout.{node_count, rg, text_at, text_of, was_of, own_of, seq_of, used_of, dead_of, meaning_of, passes, Whole, Kin}
+use Rattle.scanned.proofs.Wholes.{own_is, own_none}
 use Rattle.scanned.proofs.Totals.{total_same}
 use Rattle.scanned.proofs.Admits.{seq_is, dead_is, passes_same}
 use Rattle.scanned.proofs.Joins.{text_past, was_past, size_past}

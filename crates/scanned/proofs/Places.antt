@@ -1,14 +1,13 @@
 -- The place of a handle, found by walking back to the head. Assumes nothing.
-use Rattle.std.proofs.Common.{◌≡◌, ℕ, zero, suc, ◌+◌, ◌-◌, ◌*◌, ◌<◌, ◌≤◌, Bool, true, false, ◌⊎◌, List, [], ◌∷◌, ◌++◌, map, length, get_or, sym, refl, ap, ◌∙◌, subst, inl, inr, arith}
+use Rattle.std.proofs.Common.{◌≡◌, ℕ, suc, ◌+◌, ◌-◌, ◌*◌, ◌<◌, ◌≤◌, Bool, List, ◌∷◌, length, get_or, sym, ap, ◌∙◌, inl, inr, arith}
 use Rattle.std.proofs.lemmas.Bool.{cases_eq}
 use Rattle.std.proofs.lemmas.List.{length-map}
-use Rattle.rings.specs.Rings.{ring, next, prev, Held}
+use Rattle.rings.specs.Rings.{next, prev, Held}
 use Rattle.rings.proofs.Paths.{path_prev}
 use Rattle.rings.proofs.Shifts.{slot_at}
-use Rattle.rules.specs.Store.{Meaning}
 use Rattle.rules.specs.Lawful.{Lawful}
 use Rattle.rules.proofs.Lawful.{own_few}
-use Rattle.scanned.specs.Layout.{node_count, rg, text_of, own_of, meaning_of, Whole, Sound, At}
+use Rattle.scanned.specs.Layout.{node_count, rg, text_of, own_of, meaning_of, Sound, At}
 use Rattle.scanned.proofs.Asks.{at_room, at_literal, at_ring}
 
 -- i steps back from h stands x

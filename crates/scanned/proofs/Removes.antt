@@ -1,11 +1,11 @@
 -- A clause removed from a scanned store. Assumes nothing.
-use Rattle.std.proofs.Common.{◌≡◌, ℕ, zero, suc, ◌+◌, ◌-◌, ◌*◌, ◌<◌, ◌≤◌, Bool, true, false, cond, not, ◌&&◌, eqb, ltb, ◌⊎◌, List, [], ◌∷◌, ◌++◌, map, length, get_or, take, drop, set, filter, sym, refl, ap, ◌∙◌, subst, inl, inr, arith}
+use Rattle.std.proofs.Common.{◌≡◌, ℕ, ◌+◌, ◌-◌, ◌*◌, ◌<◌, ◌≤◌, Bool, true, not, ◌&&◌, eqb, ltb, List, [], ◌∷◌, ◌++◌, map, length, get_or, take, drop, set, filter, sym, refl, ap, ◌∙◌, subst, inl, inr, arith}
 use mathlib.Core.Path.{fun_ext}
 use Rattle.std.specs.List.{AllByRecursion as All}
-use Rattle.std.proofs.lemmas.Bool.{cases_lt, cases_eq, cases_Bool, cond-true, cond-false, cond_both, lt-ltb, le-ltb}
-use Rattle.std.proofs.lemmas.List.{length_push, length-take-le, length-set, map_push, length-map}
+use Rattle.std.proofs.lemmas.Bool.{cases_lt, cases_eq, cases_Bool, cond-true, cond-false, cond_both, lt-ltb}
+use Rattle.std.proofs.lemmas.List.{length_push, length-take-le, length-set, length-map}
 use Rattle.std.proofs.ByRecursion.{All-get_or, All-from_get_or, All-push, All-weaker, All-set, All-take}
-use Rattle.rings.specs.Rings.{ring, next, prev, Held, Place, linked, unlinked, swapped, without, at}
+use Rattle.rings.specs.Rings.{next, prev, Held, Place, linked, unlinked, swapped, without, at}
 use Rattle.rings.specs.Rings.{Lacks}
 use Rattle.rings.proofs.Holes.{without_all, without_lacks}
 use Rattle.rings.proofs.Paths.{without_here, without_other}
@@ -14,7 +14,7 @@ use Rattle.rings.proofs.Shifts.{slot_at, Cuts, cuts, Swaps, swaps, push_held, pu
 use Rattle.rings.specs.Rings.{cut_out, put_in, swapped_out}
 use Rattle.rings.proofs.Bounds.{cut_is, put_is, swapped_is}
 use Rattle.network.specs.Clauses.{last, has, well_formed}
-use Rattle.rules.specs.Store.{Meaning, removed}
+use Rattle.rules.specs.Store.{removed}
 use Rattle.scanned.specs.Sums.{total, any_to}
 use Rattle.slots.specs.Slots.{filled_by_last}
 use Rattle.slots.specs.Slots.{meant}
@@ -24,7 +24,7 @@ use Rattle.scanned.proofs.Wholes.{own_is, own_none, kept_is}
 use Rattle.scanned.proofs.Totals.{total_same, total_at}
 use Rattle.scanned.proofs.Admits.{seq_is, dead_is, passes_same}
 use Rattle.scanned.proofs.Joins.{text_past, was_past, size_past}
-use Rattle.scanned.proofs.Asks.{at_room, at_literal, at_ring, at_slot, at_low}
+use Rattle.scanned.proofs.Asks.{at_literal, at_ring, at_slot, at_low}
 
 pub lacks_without : (m n : ℕ) (ys : List ℕ) → (m ≡ n → ⊥) → Lacks m (without n ys) → Lacks m ys
 lacks_without m n [] ne h = tt

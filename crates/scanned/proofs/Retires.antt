@@ -1,11 +1,11 @@
 -- A clause retired in a scanned store. Assumes nothing.
-use Rattle.std.proofs.Common.{◌≡◌, ℕ, zero, suc, ◌+◌, ◌-◌, ◌*◌, ◌<◌, ◌≤◌, Bool, true, false, cond, not, ◌&&◌, ◌||◌, eqb, ltb, ◌⊎◌, List, [], ◌∷◌, ◌++◌, map, length, get_or, take, drop, set, filter, sym, refl, ap, ◌∙◌, subst, inl, inr, arith}
+use Rattle.std.proofs.Common.{◌≡◌, ℕ, zero, suc, ◌+◌, ◌-◌, ◌*◌, ◌<◌, ◌≤◌, Bool, true, false, cond, not, ◌&&◌, eqb, ◌⊎◌, List, [], ◌∷◌, ◌++◌, map, length, get_or, drop, filter, sym, refl, ap, ◌∙◌, subst, inl, inr, arith}
 use mathlib.Core.Path.{fun_ext}
 use Rattle.std.specs.List.{AllByRecursion as All}
-use Rattle.std.proofs.lemmas.Bool.{cases_lt, cases_eq, cases_Bool, cond-true, cond-false, eq-eqb, ne_eqb, lt-ltb, or_from, or_left, or_right}
+use Rattle.std.proofs.lemmas.Bool.{cases_lt, cases_eq, cases_Bool, cond-true, cond-false, eq-eqb, ne_eqb, or_from, or_left, or_right}
 use Rattle.std.proofs.lemmas.List.{length_push, length-map, get_or-map}
 use Rattle.std.proofs.ByRecursion.{All-get_or, All-from_get_or, All-push, All-weaker, all_kept_by}
-use Rattle.rings.specs.Rings.{ring, next, prev, Held, Place, linked, unlinked, drop_at, at}
+use Rattle.rings.specs.Rings.{next, Held, Place, linked, unlinked, drop_at, at}
 use Rattle.rings.specs.Rings.{Lacks}
 use Rattle.rings.proofs.Drops.{at_here, at_else, drop_at_all, drop_at_length}
 use Rattle.rings.proofs.Words.{alone_lacks}
@@ -13,7 +13,7 @@ use Rattle.rings.proofs.Shifts.{slot_at, moved_held, moved_ring, moved_drop, mov
 use Rattle.rings.specs.Rings.{shifted}
 use Rattle.rings.proofs.Bounds.{shifted_is}
 use Rattle.network.specs.Clauses.{last, has, well_formed}
-use Rattle.rules.specs.Store.{Meaning, retired}
+use Rattle.rules.specs.Store.{retired}
 use Rattle.scanned.specs.Sums.{total, any_to}
 use Rattle.slots.specs.Slots.{meant}
 use Rattle.slots.proofs.Slots.{member}
@@ -25,7 +25,7 @@ use Rattle.rules.specs.Store.{literals}
 use Rattle.scanned.proofs.Totals.{total_same, total_at, any_literals}
 use Rattle.scanned.proofs.Admits.{seq_is, dead_is, passes_same}
 use Rattle.scanned.proofs.Joins.{text_past, was_past, size_past}
-use Rattle.scanned.proofs.Asks.{at_room, at_literal, at_ring, at_slot, at_low}
+use Rattle.scanned.proofs.Asks.{at_literal, at_ring, at_slot, at_low}
 
 lacks_has : (x : ℕ) (ys : List ℕ) → Lacks x ys → has x ys ≡ false
 lacks_has x [] h = refl

@@ -1,24 +1,19 @@
 -- What the words of a scanned store say. Assumes nothing.
-use Rattle.std.proofs.Common.{◌≡◌, ℕ, zero, suc, ◌+◌, ◌-◌, ◌*◌, ◌<◌, ◌≤◌, Bool, true, false, cond, not, ◌&&◌, eqb, ltb, ◌⊎◌, List, [], ◌∷◌, ◌++◌, map, length, get_or, take, drop, filter, sym, refl, ap, ◌∙◌, subst, inl, inr, arith}
+use Rattle.std.proofs.Common.{◌≡◌, ℕ, ◌+◌, ◌-◌, ◌<◌, ◌≤◌, Bool, true, ◌&&◌, ltb, List, [], ◌∷◌, get_or, sym, refl, subst, inl, inr, arith}
 use mathlib.Core.Logic.{∥∥₁_elim}
 use native.Mathlib.Bridge.{le_prop}
 use mathlib.Core.HLevel.{Π_prop, ×_prop}
-use denote.Struct.Props.{≡_prop, props}
+use denote.Struct.Props.{≡_prop}
 use base.Stored.{coded_ℕ, coded_bool, coded_list}
 use Rattle.std.specs.List.{AllByRecursion as All}
 use Rattle.std.proofs.lemmas.Bool.{cond-true, cond-false, lt-ltb, le-ltb, and_from, and_left, and_right, cases_lt}
-use Rattle.std.proofs.lemmas.List.{length-take, length-drop, length-take-le}
-use Rattle.std.proofs.ByRecursion.{All-get_or}
 use Rattle.rings.specs.Rings.{ring, next, prev, Held, Path}
 use Rattle.rings.specs.Rings.{Differ}
 use Rattle.rings.proofs.Words.{ring_differ}
-use Rattle.network.specs.Clauses.{last, has, well_formed}
-use Rattle.rules.specs.Store.{Meaning}
-use Rattle.scanned.specs.Sums.{total, any_to}
-use Rattle.rules.specs.Lawful.{Lawful}
-use Rattle.slots.specs.Slots.{meant}
+use Rattle.network.specs.Clauses.{last, well_formed}
+use Rattle.scanned.specs.Sums.{any_to}
 use Rattle.slots.specs.Slots.{Kept}
-use Rattle.scanned.specs.Layout.{node_count, rg, text_at, text_of, was_of, own_of, seq_of, used_of, dead_of, meaning_of, passes, Whole, Sound}
+use Rattle.scanned.specs.Layout.{node_count, rg, text_at, text_of, own_of, passes, Whole, Sound}
 
 path_prop : (nx pv : ℕ → ℕ) (a : ℕ) (xs : List ℕ) (b : ℕ) → IsProp (Path nx pv a xs b)
 unfolding Path

@@ -1,9 +1,9 @@
 -- How the scanned store lies in its words. Assumes nothing.
 -- Heads of rings: own lists at 0 to 2047, the free slots at 2048, the slots of retired clauses at 2049, the sequence of indexed clauses at 2050.
 -- Slot x of `room` slots is a node from 2051 on, and node x + room is its place in the sequence. Then 34 words for each slot: length, indexed length, literals.
-use Rattle.std.specs.Prelude.{◌≡◌, ℕ, zero, suc, ◌+◌, ◌-◌, ◌*◌, ◌%◌, ◌<◌, ◌≤◌, Bool, true, false, cond, not, ◌&&◌, ◌||◌, ◌⊎◌, List, [], ◌∷◌, ◌++◌, map, length, take, drop, filter, ◌==◌, ◌≢◌, nat_lt, slice_index, slice_index_or}
+use Rattle.std.specs.Prelude.{◌≡◌, ℕ, ◌+◌, ◌-◌, ◌*◌, ◌<◌, ◌≤◌, Bool, true, false, cond, not, ◌&&◌, List, [], ◌∷◌, ◌++◌, map, length, take, drop, filter, ◌==◌, ◌≢◌, nat_lt, slice_index, slice_index_or}
 use Rattle.std.specs.List.{AllByRecursion as All}
-use Rattle.rings.specs.Rings.{at, ring, next, prev, Held, Lacks}
+use Rattle.rings.specs.Rings.{at, ring, next, Held, Lacks}
 use Rattle.network.specs.Clauses.{last, has, well_formed}
 use Rattle.network.specs.Lists.{In}
 use Rattle.rules.specs.Store.{Meaning, live, is_at, is_dead, how_many, kept_clauses}

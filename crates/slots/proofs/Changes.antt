@@ -1,18 +1,17 @@
 -- Retiring, shortening and the index, by slots and by the meaning. Assumes nothing.
-use Rattle.std.proofs.Common.{◌≡◌, ℕ, zero, suc, ◌+◌, ◌-◌, ◌*◌, ◌<◌, ◌≤◌, Bool, true, false, cond, not, ◌&&◌, ◌||◌, eqb, ltb, ◌⊎◌, List, [], ◌∷◌, ◌++◌, map, length, get_or, take, drop, set, filter, sym, refl, ap, ◌∙◌, subst, inl, inr, ⊎_elim, arith}
+use Rattle.std.proofs.Common.{◌≡◌, ℕ, zero, suc, ◌+◌, ◌-◌, ◌<◌, Bool, true, false, cond, eqb, List, [], ◌∷◌, map, length, get_or, set, filter, sym, refl, ap, ◌∙◌, subst, inl, inr, arith}
 use mathlib.Core.Path.{fun_ext}
 use Rattle.std.specs.List.{AllByRecursion as All}
-use Rattle.std.proofs.lemmas.Bool.{cases_eq, cases_lt, cases_Bool, cond_both, cond-true, cond-false, eq-eqb, ne_eqb, lt-ltb, le-ltb}
-use Rattle.std.proofs.lemmas.List.{map-append, length-map, get_or-map, map-set}
-use Rattle.std.proofs.ByRecursion.{All-get_or, All-from_get_or, All-weaker}
-use Rattle.rings.specs.Rings.{Lacks, Differ, without, Apart, drop_at, at}
+use Rattle.std.proofs.lemmas.Bool.{cases_eq, cases_lt, cases_Bool, cond-true, cond-false, eq-eqb, ne_eqb, lt-ltb, le-ltb}
+use Rattle.std.proofs.lemmas.List.{map-append, get_or-map}
+use Rattle.std.proofs.ByRecursion.{All-get_or}
+use Rattle.rings.specs.Rings.{Lacks, Differ, without, drop_at, at}
 use Rattle.rings.proofs.Drops.{at_here, at_else, drop_at_all, drop_at_differ, drop_at_length, drop_at_low, drop_at_high, drop_at_out, drop_at_map}
-use Rattle.rings.proofs.Holes.{apart_from, differ_from}
 use Rattle.network.specs.Lists.{any_of, gather}
-use Rattle.network.specs.Clauses.{last, front, has, well_formed}
-use Rattle.rules.specs.Store.{Meaning, Ref, live, dead, entered, removed, retired, shortened, index_on, swap_out, close_up, changed, with_use, with_first, moved_ref, after_retired, is_at, places, literals}
+use Rattle.network.specs.Clauses.{last, front, has}
+use Rattle.rules.specs.Store.{live, dead, retired, shortened, index_on, close_up, after_retired, is_at, places, literals}
 use Rattle.slots.specs.Slots.{seek, ref, meant, Kept, filled_by_last}
-use Rattle.slots.proofs.Slots.{same_meaning, map_same, close_same, changed_here, changed_else, seek_here, seek_next, seek_lacks, seek_at, seek_kind, member, ref_at, ref_is_at, ref_is_here, ref_is_other, removed_ref}
+use Rattle.slots.proofs.Slots.{same_meaning, map_same, close_same, changed_here, changed_else, seek_lacks, seek_at, seek_kind, member, ref_at, ref_is_here, removed_ref}
 
 -- what falls
 fallen_other : (l i m j : ℕ) → (m ≡ l → ⊥) → after_retired l i (live m j) ≡ live m j

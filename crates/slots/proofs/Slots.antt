@@ -1,17 +1,16 @@
 -- Each change of the slots is the change of the meaning. Assumes nothing.
-use Rattle.std.proofs.Common.{◌≡◌, ℕ, zero, suc, ◌+◌, ◌-◌, ◌*◌, ◌<◌, ◌≤◌, Bool, true, false, cond, not, ◌&&◌, ◌||◌, eqb, ltb, ◌⊎◌, List, [], ◌∷◌, ◌++◌, map, length, get_or, take, drop, set, filter, sym, refl, ap, ◌∙◌, subst, inl, inr, ⊎_elim, arith, rules}
+use Rattle.std.proofs.Common.{◌≡◌, ℕ, zero, suc, ◌+◌, ◌-◌, ◌<◌, Bool, true, false, cond, not, ◌&&◌, eqb, ◌⊎◌, List, [], ◌∷◌, ◌++◌, map, length, get_or, take, set, filter, sym, refl, ap, ◌∙◌, inl, inr, arith}
 use mathlib.Core.Path.{fun_ext}
 use Rattle.std.specs.List.{AllByRecursion as All}
-use Rattle.std.proofs.lemmas.Bool.{cases_eq, cases_lt, cases_Bool, not_from_true, not_from_false, lt-ltb, le-ltb, cond_both, cond-true, cond-false, eq-eqb, ne_eqb, eqb-true, eqb-false}
-use Rattle.std.proofs.lemmas.List.{map_push, map-append, length-map, length-set, get_or-map, get_or-take, get_or-set_same, get_or-set_other, length-take-le, map-set, take-map, length_push}
-use Rattle.std.proofs.ByRecursion.{All-get_or, All-from_get_or, All-push}
+use Rattle.std.proofs.lemmas.Bool.{cases_eq, cases_Bool, not_from_true, not_from_false, cond-true, cond-false, eq-eqb, ne_eqb}
+use Rattle.std.proofs.lemmas.List.{map_push, length-map, length-set, get_or-map, get_or-take, get_or-set_same, get_or-set_other, length-take-le, map-set, take-map}
+use Rattle.std.proofs.ByRecursion.{All-get_or, All-from_get_or}
 use Rattle.rings.specs.Rings.{Lacks, Differ, without, Apart, at, drop_at}
 use Rattle.rings.proofs.Paths.{without_here, without_other}
 use Rattle.rings.proofs.Drops.{at_here, at_else}
 use Rattle.rings.proofs.Holes.{apart_from, differ_from}
-use Rattle.network.specs.Lists.{any_of, gather}
-use Rattle.network.specs.Clauses.{last, front, has, well_formed}
-use Rattle.rules.specs.Store.{Meaning, Ref, live, dead, entered, removed, retired, shortened, index_on, swap_out, close_up, changed, with_use, with_first, moved_ref, after_retired, is_at, places, literals}
+use Rattle.network.specs.Clauses.{last, front, has}
+use Rattle.rules.specs.Store.{Meaning, Ref, live, dead, entered, removed, swap_out, close_up, changed, moved_ref, is_at}
 use Rattle.slots.specs.Slots.{seek, ref, meant, Kept, filled_by_last}
 
 -- a write and a cut

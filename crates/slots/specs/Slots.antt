@@ -1,6 +1,6 @@
 -- A store's meaning by slots: the slots of each own list, the slots of each list of uses, and the clause in each slot.
 -- Assumes nothing.
-use Rattle.std.specs.Prelude.{◌≡◌, ℕ, zero, suc, ◌+◌, ◌-◌, ◌<◌, ◌≤◌, Bool, true, false, cond, not, ◌&&◌, ◌||◌, List, [], ◌∷◌, ◌++◌, map, length, take, filter, ◌==◌, slice_index_or, slice_set}
+use Rattle.std.specs.Prelude.{◌≡◌, ℕ, suc, ◌-◌, Bool, cond, List, [], ◌∷◌, map, length, take, ◌==◌, slice_index_or, slice_set}
 use Rattle.std.specs.List.{AllByRecursion as All}
 use Rattle.rings.specs.Rings.{Differ}
 use Rattle.network.specs.Clauses.{last}

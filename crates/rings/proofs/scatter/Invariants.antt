@@ -1,4 +1,4 @@
-use Rattle.std.proofs.Common.{◌≡◌, ◌*◌, ◌≤◌, length}
+use Rattle.std.proofs.Common.{◌≡◌, length}
 use Rattle.rings.specs.Rings.{scattered}
 use Rattle.rings.proofs.scatter.Given as goal
 

@@ -1,4 +1,3 @@
-use Rattle.slots.specs.Laws.{SlotLaws}
 use Rattle.slots.proofs.Slots.{entered_is, removed_is}
 use Rattle.slots.proofs.Changes.{retired_is, shortened_is, indexed_is}
 use Rattle.slots.proofs.slot_laws.Goals as goal

@@ -1,4 +1,4 @@
-use Rattle.std.proofs.Common.{get_or, sym, ap, ◌∙◌, arith}
+use Rattle.std.proofs.Common.{sym, arith}
 use Rattle.image.proofs.Heads.{run_zero, run_past, run_short, run_falls, run_cut}
 use Rattle.image.proofs.header.run_of.Goals as goal
 use Rattle.image.proofs.header.run_of.Goals.{then-k-eq0-via-then-k-eq0, then-k-eq0-via-else-k-eq0+then-k-words, then-k-eq0-via-else-k-eq0+else-k-words+then-node-words}

@@ -1,4 +1,4 @@
-use Rattle.std.proofs.Common.{eqb, sym, arith}
+use Rattle.std.proofs.Common.{eqb, arith}
 use Rattle.std.proofs.lemmas.Bool.Decides.{nat_tests}
 use Rattle.image.proofs.Notes.{any_on, any_here, any_end}
 use Rattle.image.proofs.lowers.among.Goals as goal

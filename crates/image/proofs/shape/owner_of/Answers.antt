@@ -1,4 +1,4 @@
-use Rattle.std.proofs.Common.{arith, rules}
+use Rattle.std.proofs.Common.{rules}
 use Rattle.image.proofs.Shapes.{owner_at, owner_none}
 use Rattle.image.proofs.shape.owner_of.Goals as goal
 

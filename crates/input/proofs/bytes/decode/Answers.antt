@@ -1,4 +1,4 @@
-use Rattle.std.proofs.Common.{◌≡◌, ◌<◌, ◌≤◌, length, refl, arith, rules}
+use Rattle.std.proofs.Common.{◌<◌, ◌≤◌, length, refl, arith, rules}
 use Rattle.input.proofs.Readings.{decoding_on, decoding_end}
 use Rattle.input.proofs.bytes.decode.Goals as goal
 

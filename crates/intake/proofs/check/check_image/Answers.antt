@@ -1,5 +1,4 @@
-use Rattle.std.proofs.Common.{◌≡◌, ℕ, List, Ok, Err, Result, sym, ap, ◌∙◌, subst, arith, rules}
-use Rattle.std.proofs.lemmas.Bool.Decides.{nat_tests}
+use Rattle.std.proofs.Common.{◌≡◌, ℕ, List, Err, Result, sym, ap, ◌∙◌, subst, arith}
 use Rattle.intake.specs.Answers.{take_in_answer}
 use Rattle.image.specs.declared.fault.Fault.{Fault}
 use Rattle.intake.specs.Accepted.{Answers}

@@ -1,4 +1,4 @@
-use Rattle.std.proofs.Common.{◌≡◌, Err, ap, ◌∙◌}
+use Rattle.std.proofs.Common.{Err, ap, ◌∙◌}
 use Rattle.std.proofs.lemmas.Result.{err_from_is_err_and}
 use Rattle.intake.proofs.Steps.{whole_from, node_cut, node_order, node_owner, node_rows, node_right}
 use Rattle.intake.proofs.check.check_node.Goals as goal

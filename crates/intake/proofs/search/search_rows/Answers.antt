@@ -1,11 +1,11 @@
-use Rattle.std.proofs.Common.{◌≡◌, ◌^◌, ◌<◌, Bool, true, false, not, ◌&&◌, ◌||◌, length, sym, refl, ◌∙◌, arith}
+use Rattle.std.proofs.Common.{◌≡◌, ◌^◌, ◌<◌, true, false, ◌&&◌, ◌||◌, length, sym, refl, ◌∙◌, arith}
 use Rattle.std.proofs.lemmas.Option.{MatchOption-at_some, MatchOption-at_none}
 use Rattle.std.proofs.lemmas.Bool.{both_ways}
 use Rattle.image.proofs.Walks.{cut_whole, whole_on}
 use Rattle.image.specs.Runs.{clauses}
 use Rattle.network.specs.Assignments.{put, holds}
 use Rattle.network.specs.Rows.{row}
-use Rattle.intake.proofs.Searching.{so_far_on, so_far_none, rows_none, rows_on, rows_stop, rows_count, searched_clash, searched_done}
+use Rattle.intake.proofs.Searching.{so_far_on, rows_none, rows_on, rows_stop, rows_count, searched_clash, searched_done}
 use Rattle.intake.proofs.search.search_rows.Goals as goal
 use Rattle.intake.proofs.search.search_rows.Goals.{else-rows-test, then-rows-test+in_ok-clause+in-Some+then-not-off+then-not-on}
 

@@ -1,4 +1,4 @@
-use Rattle.std.proofs.Common.{◌≡◌, ℕ, ◌<◌, true, List, length, sym, ◌∙◌, subst, arith}
+use Rattle.std.proofs.Common.{ℕ, ◌<◌, true, List, length, sym, ◌∙◌, subst, arith}
 use Rattle.scanned.specs.Layout.{Whole, Kin, rg}
 use Rattle.scanned.proofs.Offs.{kin_then, reads_some, reads_none, cut_words, cut_shorter, cut_kin, cut_whole}
 use Rattle.scanned.proofs.run.cut_sequence.Goals as goal

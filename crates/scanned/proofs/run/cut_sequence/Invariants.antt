@@ -1,4 +1,4 @@
-use Rattle.std.proofs.Common.{◌≡◌, ℕ, true, [], length}
+use Rattle.std.proofs.Common.{true, length}
 use Rattle.scanned.specs.Layout.{Whole, Kin, rg}
 use Rattle.scanned.proofs.run.cut_sequence.Given as goal
 

@@ -1,6 +1,6 @@
-use Rattle.std.proofs.Common.{◌≡◌, ℕ, ◌<◌, true, List, length, sym, ap, ◌∙◌, subst, arith}
+use Rattle.std.proofs.Common.{ℕ, ◌<◌, true, List, length, sym, ap, ◌∙◌, subst, arith}
 use Rattle.scanned.specs.Layout.{Whole, Kin, rg}
-use Rattle.scanned.proofs.Offs.{kin_same, kin_then, reads_some, reads_none, free_words, free_shorter, free_kin, free_whole, free_none}
+use Rattle.scanned.proofs.Offs.{kin_then, reads_some, reads_none, free_words, free_shorter, free_kin, free_whole, free_none}
 use Rattle.scanned.proofs.run.free_retired.Goals as goal
 
 pub loop-x-smaller : goal.loop-x-smaller

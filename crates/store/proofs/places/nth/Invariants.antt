@@ -1,4 +1,4 @@
-use Rattle.std.proofs.Common.{◌≡◌, ℕ, ◌<◌, ◌≤◌, length, Some, None}
+use Rattle.std.proofs.Common.{◌<◌, ◌≤◌, length, Some, None}
 use Rattle.store.proofs.places.nth.Given as goal
 
 abbrev pub invariant-loop-k : goal.invariant-loop-k

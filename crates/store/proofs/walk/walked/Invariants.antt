@@ -1,4 +1,4 @@
-use Rattle.std.proofs.Common.{◌≡◌, ℕ, ◌-◌, ◌<◌, ◌≤◌, length, Some, None}
+use Rattle.std.proofs.Common.{◌≡◌, ◌-◌, ◌<◌, ◌≤◌, length, Some, None}
 use Rattle.store.proofs.walk.walked.Given as goal
 
 abbrev pub invariant-loop-at : goal.invariant-loop-at

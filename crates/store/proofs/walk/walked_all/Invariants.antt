@@ -1,4 +1,4 @@
-use Rattle.std.proofs.Common.{◌≡◌, ℕ, ◌+◌, ◌*◌, ◌≤◌, map, length}
+use Rattle.std.proofs.Common.{◌≡◌, ◌*◌, ◌≤◌, map, length}
 use Rattle.rules.specs.Store.{sum_of, from}
 use Rattle.store.proofs.walk.walked_all.Given as goal
 

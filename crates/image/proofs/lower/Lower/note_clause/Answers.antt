@@ -1,4 +1,4 @@
-use Rattle.std.proofs.Common.{sym, refl, arith}
+use Rattle.std.proofs.Common.{refl, arith}
 use Rattle.image.proofs.Notes.{note_on, note_full, note_end}
 use Rattle.image.proofs.lower.Lower.note_clause.Goals as goal
 

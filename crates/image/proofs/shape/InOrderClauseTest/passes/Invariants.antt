@@ -1,6 +1,5 @@
-use Rattle.std.proofs.Common.{◌≡◌, ◌/◌, get_or, drop}
+use Rattle.std.proofs.Common.{◌≡◌, drop}
 use Rattle.network.specs.Clauses.{in_order_from}
-use Rattle.image.proofs.Walks.{rest_of}
 use Rattle.image.proofs.shape.InOrderClauseTest.passes.Given as goal
 
 abbrev pub invariant-loop-l : goal.invariant-loop-l

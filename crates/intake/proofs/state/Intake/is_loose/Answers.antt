@@ -1,4 +1,4 @@
-use Rattle.std.proofs.Common.{◌≡◌, sym, ap, ◌∙◌}
+use Rattle.std.proofs.Common.{ap, ◌∙◌}
 use Rattle.image.specs.Runs.{whole}
 use Rattle.intake.proofs.Steps.{accepted_whole}
 use Rattle.intake.proofs.state.Intake.is_loose.Goals as goal

@@ -1,4 +1,4 @@
-use Rattle.std.proofs.Common.{◌≡◌, ◌+◌, sym, ap, ◌∙◌, arith}
+use Rattle.std.proofs.Common.{◌≡◌, sym, ap, ◌∙◌, arith}
 use Rattle.image.specs.Headers.{top}
 use Rattle.intake.specs.Answers.{first_of, loose_nodes}
 use Rattle.intake.proofs.LooseNodes.{loose_none, loose_no, first_here}

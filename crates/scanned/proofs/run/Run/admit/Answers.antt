@@ -1,7 +1,7 @@
-use Rattle.std.proofs.Common.{◌≡◌, ℕ, ◌+◌, ◌-◌, ◌<◌, ◌≤◌, List, length, get_or, sym, refl, ap, ◌∙◌, subst, arith}
+use Rattle.std.proofs.Common.{ℕ, ◌+◌, ◌-◌, List, length, get_or, sym, refl, ap, ◌∙◌, subst, arith}
 use Rattle.rules.proofs.Formed.{formed_parts}
 use Rattle.scanned.specs.Sums.{total}
-use Rattle.scanned.specs.Layout.{node_count, Whole, Loose, Admitted, own_of}
+use Rattle.scanned.specs.Layout.{Whole, Loose, Admitted, own_of}
 use Rattle.scanned.proofs.Frames.{last_is}
 use Rattle.scanned.proofs.Admits.{admit_slot, admit_words, admit_whole, admit_loose, admit_is, admit_live}
 use Rattle.scanned.proofs.run.Run.admit.Goals as goal

@@ -1,4 +1,4 @@
-use Rattle.std.proofs.Common.{◌≡◌, ℕ, ◌+◌, List, refl, ap, ◌∙◌, arith}
+use Rattle.std.proofs.Common.{ℕ, List, refl, ap, ◌∙◌, arith}
 use Rattle.rings.specs.Rings.{put_in, swapped_out}
 use Rattle.scanned.proofs.Asks.{at_low}
 use Rattle.scanned.proofs.Removes.{remove_words}

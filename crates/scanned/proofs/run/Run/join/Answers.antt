@@ -1,4 +1,4 @@
-use Rattle.std.proofs.Common.{◌≡◌, ℕ, List, sym, refl, ◌∙◌, subst}
+use Rattle.std.proofs.Common.{ℕ, List, sym, refl, ◌∙◌, subst}
 use Rattle.scanned.specs.Layout.{Whole, Joined}
 use Rattle.scanned.proofs.Joins.{join_put, join_whole, join_is}
 use Rattle.scanned.proofs.run.Run.join.Goals as goal

@@ -1,4 +1,4 @@
-use Rattle.std.proofs.Common.{ℕ, ◌*◌, ◌≤◌, length, arith}
+use Rattle.std.proofs.Common.{◌*◌, ◌≤◌, length, arith}
 use Rattle.scanned.specs.Layout.{node_count}
 use Rattle.scanned.proofs.Fills.{filled_scattered}
 use Rattle.scanned.proofs.run.Run.reset.Goals as goal

@@ -1,4 +1,4 @@
-use Rattle.std.proofs.Common.{◌≡◌, ℕ, ◌+◌, get_or, take, drop, ap, ◌∙◌, arith}
+use Rattle.std.proofs.Common.{ℕ, ◌+◌, take, drop, ap, ◌∙◌, arith}
 use Rattle.scanned.specs.Layout.{text_at, text_of}
 use Rattle.scanned.proofs.Wholes.{sound}
 use Rattle.scanned.proofs.Asks.{at_room, at_slot, at_low, at_size, at_clause}

@@ -1,5 +1,4 @@
-use Rattle.std.proofs.Common.{◌≡◌, ℕ, ◌<◌, false, length, sym, refl, ap, ◌∙◌, subst, arith}
-use Rattle.scanned.specs.Layout.{Whole}
+use Rattle.std.proofs.Common.{◌<◌, false, sym, ◌∙◌, subst, arith}
 use Rattle.rules.specs.Lawful.{Lawful}
 use Rattle.rules.proofs.Lawful.{emptied_lawful}
 use Rattle.scanned.specs.Layout.{meaning_of}

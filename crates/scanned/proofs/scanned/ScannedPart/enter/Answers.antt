@@ -1,9 +1,8 @@
-use Rattle.std.proofs.Common.{◌≡◌, ℕ, ◌+◌, ◌<◌, ◌≤◌, Bool, true, false, cond, ◌&&◌, List, length, get_or, sym, refl, ap, ◌∙◌, subst, arith}
-use Rattle.std.proofs.lemmas.Bool.{and_left, and_right, cond-true, cond-false}
-use Rattle.network.specs.Clauses.{well_formed, has, front}
-use Rattle.rules.specs.Store.{entered}
-use Rattle.scanned.specs.Sums.{total, any_to}
-use Rattle.scanned.specs.Layout.{Whole, Sound, Joined, Loose, passes, own_of, meaning_of}
+use Rattle.std.proofs.Common.{◌≡◌, ℕ, ◌<◌, Bool, true, sym, refl, ◌∙◌, subst, arith}
+use Rattle.std.proofs.lemmas.Bool.{and_left, and_right}
+use Rattle.network.specs.Clauses.{has, front}
+use Rattle.scanned.specs.Sums.{any_to}
+use Rattle.scanned.specs.Layout.{Whole, Joined, Loose, passes, meaning_of}
 use Rattle.rules.specs.Lawful.{Lawful}
 use Rattle.rules.proofs.Lawful.{entered_lawful}
 use Rattle.scanned.proofs.Laws.{law}

@@ -1,4 +1,4 @@
-use Rattle.std.proofs.Common.{◌≡◌, ℕ, length, inl, inr, arith}
+use Rattle.std.proofs.Common.{◌≡◌, length, inl, inr, arith}
 use Rattle.scanned.proofs.Wholes.{sound}
 use Rattle.scanned.proofs.Asks.{own_zero, first_says}
 use Rattle.scanned.proofs.scanned.ScannedPart.first.Goals as goal

@@ -1,4 +1,4 @@
-use Rattle.std.proofs.Common.{◌≡◌, ℕ, ◌<◌, false, sym, ◌∙◌, subst, arith}
+use Rattle.std.proofs.Common.{◌<◌, false, sym, ◌∙◌, subst, arith}
 use Rattle.rules.specs.Lawful.{Lawful}
 use Rattle.rules.proofs.Lawful.{index_off_lawful}
 use Rattle.scanned.specs.Layout.{meaning_of}

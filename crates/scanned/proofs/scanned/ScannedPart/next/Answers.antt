@@ -1,4 +1,3 @@
-use Rattle.std.proofs.Common.{arith}
 use Rattle.scanned.proofs.Wholes.{sound}
 use Rattle.scanned.proofs.Asks.{at_room, at_literal, next_says}
 use Rattle.scanned.proofs.scanned.ScannedPart.next.Goals as goal

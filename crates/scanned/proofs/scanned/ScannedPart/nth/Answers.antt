@@ -1,6 +1,6 @@
-use Rattle.std.proofs.Common.{◌≡◌, ℕ, ◌+◌, ◌*◌, ◌<◌, ◌≤◌, length, get_or, sym, refl, ap, ◌∙◌, subst, inl, inr, arith}
+use Rattle.std.proofs.Common.{◌≡◌, ℕ, length, subst, inl, inr, arith}
 use Rattle.scanned.proofs.Wholes.{sound}
-use Rattle.scanned.proofs.Asks.{own_zero, walk_start, list_in, step, step_below, ended, found, at_in}
+use Rattle.scanned.proofs.Asks.{own_zero, walk_start, list_in, step, ended, found, at_in}
 use Rattle.scanned.proofs.scanned.ScannedPart.nth.Goals as goal
 use Rattle.scanned.proofs.scanned.ScannedPart.nth.Goals.{then-l-ge2048-via-then-l-ge2048, then-l-ge2048-via-else-l-ge2048+then-self-eq0}
 use Rattle.scanned.specs.Layout.{meaning_of, At}

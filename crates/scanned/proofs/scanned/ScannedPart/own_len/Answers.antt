@@ -1,6 +1,6 @@
-use Rattle.std.proofs.Common.{◌≡◌, ℕ, ◌+◌, ◌*◌, ◌<◌, ◌≤◌, length, get_or, sym, refl, ap, ◌∙◌, inl, inr, arith}
+use Rattle.std.proofs.Common.{◌≡◌, length, sym, inl, inr, arith}
 use Rattle.scanned.proofs.Wholes.{sound}
-use Rattle.scanned.proofs.Asks.{own_zero, walk_start, list_in, step, step_below, step_few, ended, found}
+use Rattle.scanned.proofs.Asks.{own_zero, walk_start, list_in, step, step_below, step_few, ended}
 use Rattle.scanned.proofs.scanned.ScannedPart.own_len.Goals as goal
 use Rattle.scanned.proofs.scanned.ScannedPart.own_len.Goals.{then-l-ge2048-via-then-l-ge2048, then-l-ge2048-via-else-l-ge2048+then-self-eq0}
 use Rattle.scanned.specs.Layout.{meaning_of}

@@ -1,4 +1,4 @@
-use Rattle.std.proofs.Common.{◌+◌, ◌-◌, length}
+use Rattle.std.proofs.Common.{◌-◌, length}
 use Rattle.scanned.specs.Layout.{rg}
 use Rattle.scanned.proofs.Asks.{Walks}
 use Rattle.scanned.proofs.scanned.ScannedPart.own_len.Given as goal

@@ -1,5 +1,4 @@
-use Rattle.std.proofs.Common.{◌≡◌, ℕ, ◌+◌, ◌<◌, List, length, sym, refl, ap, ◌∙◌, subst, arith}
-use Rattle.rules.specs.Store.{removed}
+use Rattle.std.proofs.Common.{◌≡◌, ℕ, ◌+◌, List, length, sym, ap, ◌∙◌, subst, arith}
 use Rattle.scanned.specs.Sums.{total}
 use Rattle.scanned.specs.Layout.{Whole, own_of, meaning_of}
 use Rattle.rules.specs.Lawful.{Lawful}
