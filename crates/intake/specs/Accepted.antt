@@ -1,5 +1,5 @@
 -- What an image that take-in accepts is, and what is wrong with one that it refuses, in the words of the subject. Assumes nothing.
-use Rattle.std.specs.Prelude.{◌≡◌, ℕ, zero, suc, ◌+◌, ◌<◌, ◌≤◌, Bool, true, false, ◌⊎◌, ◌↔◌, List, [], ◌∷◌, length, get_or, Ok, Err, Result, ◌≢◌, slice_index_or}
+use Rattle.std.specs.Prelude.{◌≡◌, ℕ, zero, suc, ◌+◌, ◌<◌, ◌≤◌, Bool, true, false, ◌⊎◌, ◌↔◌, List, [], ◌∷◌, length, Ok, Err, Result, ◌≢◌, slice_index_or}
 use Rattle.network.specs.Assignments.{node}
 use Rattle.network.specs.Clauses.{Rising, owner}
 use Rattle.network.specs.Levels.{Total}
@@ -87,7 +87,7 @@ taken_in ws (suc k) = clauses (run ws (suc k))
 pub record LooseNode (ws : List ℕ) (fs : List Bool) (n : ℕ) : Type 0 where
   pub above : 0 < n
   pub within : n ≤ top ws
-  pub free : get_or fs n false ≡ false
+  pub free : slice_index_or fs n false ≡ false
   pub loose : Loose n (clauses (run ws n))
 
 -- ## Laws
@@ -115,4 +115,4 @@ pub record LooseNodesAreFound : Type 0 where
 -- without a loose node a right image is a network of gates
 abbrev pub ReadyToStart : Type 0
 ReadyToStart = (ws : List ℕ) (fs : List Bool) → Image ws → slice_index_or fs 0 false ≡ true → loose_nodes ws fs (top ws) ≡ []
-    → Gates (taken_in ws) (suc (top ws)) (λ n. get_or fs n false)
+    → Gates (taken_in ws) (suc (top ws)) (λ n. slice_index_or fs n false)

@@ -1,6 +1,6 @@
 -- bve_simplify: a node that costs no more than it gives is replaced by its resolvents (bounded variable elimination).
 -- Assumes nothing.
-use Rattle.std.specs.Prelude.{ℕ, zero, suc, ◌+◌, ◌*◌, Bool, cond, not, ◌||◌, ltb, List, [], ◌∷◌, ◌++◌, map, length, filter, ◌==◌, nat_lt}
+use Rattle.std.specs.Prelude.{ℕ, zero, suc, ◌+◌, ◌*◌, Bool, cond, not, ◌||◌, List, [], ◌∷◌, ◌++◌, map, length, filter, ◌==◌, nat_lt}
 use Rattle.network.specs.Lists.{any_of, gather, listed}
 use Rattle.network.specs.Resolution.{resolve}
 use Rattle.network.specs.Lemmas.{lemmas}
@@ -58,7 +58,7 @@ passed_over W n = W.frozen n || cost W.store n == 0 || nat_lt highest_cost (cost
 
 -- the elimination is given up: a resolvent is too long, or there are more than the cost
 abbrev pub given_up : Work → ℕ → List (List ℕ) → Bool
-given_up W n Rs = any_of (λ R. ltb greatest_length (length R)) Rs || nat_lt (cost W.store n) (length Rs)
+given_up W n Rs = any_of (λ R. nat_lt greatest_length (length R)) Rs || nat_lt (cost W.store n) (length Rs)
 
 -- n is taken out unless that is given up
 abbrev pub attempted : ℕ → List (List ℕ) → Work → Work
