@@ -2,7 +2,7 @@ ghost use Rattle.std.specs.Prelude.{◌≡◌, ◌<◌, true, false, ◌⊎◌, 
 ghost use Rattle.image.specs.Faults.{fault};
 ghost use Rattle.image.specs.Runs.{clauses, whole};
 ghost use Rattle.network.specs.Clauses.{has};
-ghost use Rattle.network.specs.Rows.{lower as lowerOf, noted, noted_in};
+ghost use Rattle.network.specs.Rows.{lower as lower_of, noted, noted_in};
 
 use crate::fault::{Fault, WIDE};
 use crate::lower::Lower;
@@ -71,7 +71,7 @@ impl Lower {
 
 // The lower nodes that the clauses of a node's run name besides 0; refused if there are more than eight.
 pub fn lower_nodes(run: &[u32], node: u32) -> Result<Lower, Fault>
-    ensures { elim result [ Ok low ↦ (whole run.now ≡ true) × (take low.len low.nodes ≡ lowerOf node (clauses run.now)) | Err f ↦ ((f ≡ fault 5 node) × (8 < length (lowerOf node (clauses run.now)))) ⊎ ((f ≡ fault 2 node) × (whole run.now ≡ false)) ] }
+    ensures { elim result [ Ok low ↦ (whole run.now ≡ true) × (take low.len low.nodes ≡ lower_of node (clauses run.now)) | Err f ↦ ((f ≡ fault 5 node) × (8 < length (lower_of node (clauses run.now)))) ⊎ ((f ≡ fault 2 node) × (whole run.now ≡ false)) ] }
 {
     let mut low = Lower::none();
     let mut left = run;

@@ -1,6 +1,6 @@
 -- One clause's turn, step by step, and the turns one after the other. Assumes nothing.
 use Rattle.std.proofs.Common.{◌≡◌, ℕ, ◌+◌, ◌-◌, ◌<◌, ◌≤◌, Bool, true, false, cond, ◌||◌, ◌⊎◌, List, [], ◌∷◌, ◌++◌, map, length, get_or, take, drop, set, sym, refl, ap, ◌∙◌, subst, ⊎_elim, append_assoc, append-nil, arith, length-set}
-use Rattle.std.specs.List.{AllByRecursion as All}
+use Rattle.std.specs.List.{AllByRecursion}
 use Rattle.std.proofs.ByRecursion.{All-from_get_or}
 use Rattle.std.proofs.lemmas.List.{length-take, length-take-le, length-drop, length-map, get_or-take, get_or-drop, get_or-set_same, get_or-set_other, take_more, take_more_set, take-set-le, take-take, drop_more, drop_all, drop-drop, drop-append-le, drop-set-lt, map_push}
 use Rattle.std.proofs.lemmas.Bool.{cases_eq}
@@ -13,7 +13,7 @@ use Rattle.lemmas.proofs.Fewer.{Short, swept_short, full, full_none, full_step, 
 
 -- ---- the clauses that a part of the line names
 
-map_same : (F G : ℕ → List ℕ) (xs : List ℕ) → All (λ x. F x ≡ G x) xs → map F xs ≡ map G xs
+map_same : (F G : ℕ → List ℕ) (xs : List ℕ) → AllByRecursion (λ x. F x ≡ G x) xs → map F xs ≡ map G xs
 map_same F G [] a = refl
 map_same F G (x ∷ xs) a = λ i. a.0 i ∷ map_same F G xs a.1 i
 

@@ -1,6 +1,6 @@
 -- Lists with a place taken out, and families with one value changed. Assumes nothing.
 use Rattle.std.proofs.Common.{◌≡◌, ℕ, zero, suc, ◌-◌, ◌<◌, ◌≤◌, eqb, List, [], ◌∷◌, map, length, get_or, take, set, sym, refl, ap, ◌∙◌, subst, arith}
-use Rattle.std.specs.List.{AllByRecursion as All}
+use Rattle.std.specs.List.{AllByRecursion}
 use Rattle.std.proofs.lemmas.Bool.{cond-true, cond-false, eq-eqb, ne_eqb}
 use Rattle.std.proofs.ByRecursion.{All-get_or}
 use Rattle.rings.specs.Rings.{Lacks, Differ, without, before, drop_at, at}
@@ -13,7 +13,7 @@ at_here f l x k e = cond-true (eqb k l) x (f k) (eq-eqb k l e)
 pub at_else : {X : Type 0} (f : ℕ → X) (l : ℕ) (x : X) (k : ℕ) → (k ≡ l → ⊥) → at f l x k ≡ f k
 at_else f l x k e = cond-false (eqb k l) x (f k) (ne_eqb k l e)
 
-pub drop_at_all : (P : ℕ → Type 0) (i : ℕ) (xs : List ℕ) → All P xs → All P (drop_at i xs)
+pub drop_at_all : (P : ℕ → Type 0) (i : ℕ) (xs : List ℕ) → AllByRecursion P xs → AllByRecursion P (drop_at i xs)
 unfolding drop_at
 drop_at_all P i [] h = tt
 drop_at_all P zero (x ∷ xs) h = h.1

@@ -1,6 +1,6 @@
 -- A list of different numbers below n has at most n of them. Assumes nothing.
 use Rattle.std.proofs.Common.{◌≡◌, ℕ, zero, suc, ◌+◌, ◌<◌, ◌≤◌, eqb, List, [], ◌∷◌, ◌++◌, length, get_or, sym, refl, ap, ◌∙◌, subst, inl, inr, arith}
-use Rattle.std.specs.List.{AllByRecursion as All}
+use Rattle.std.specs.List.{AllByRecursion}
 use Rattle.std.proofs.lemmas.Bool.{cases_eq, cond_both, cond-true, cond-false, eq-eqb, ne_eqb}
 use Rattle.std.proofs.ByRecursion.{All-get_or, All-from_get_or}
 use Rattle.rings.specs.Rings.{Path, without, before, Apart, Lacks, Differ}
@@ -24,12 +24,12 @@ pub without_lacks : (s : ℕ) (xs : List ℕ) → Lacks s xs → without s xs �
 without_lacks s [] h = refl
 without_lacks s (x ∷ xs) h = without_other s x xs h.0 ∙ ap (λ (ys : List ℕ). x ∷ ys) (without_lacks s xs h.1)
 
-pub without_all : (P : ℕ → Type 0) (s : ℕ) (xs : List ℕ) → All P xs → All P (without s xs)
+pub without_all : (P : ℕ → Type 0) (s : ℕ) (xs : List ℕ) → AllByRecursion P xs → AllByRecursion P (without s xs)
 without_all P s [] h = tt
 without_all P s (x ∷ xs) h =
     elim (cases_eq x s) [
-      | inl e ↦ subst (All P) (sym (without_here s x xs e)) (without_all P s xs h.1)
-      | inr ne ↦ subst (All P) (sym (without_other s x xs ne)) (h.0, without_all P s xs h.1)
+      | inl e ↦ subst (AllByRecursion P) (sym (without_here s x xs e)) (without_all P s xs h.1)
+      | inr ne ↦ subst (AllByRecursion P) (sym (without_other s x xs ne)) (h.0, without_all P s xs h.1)
     ]
 
 pub without_gone : (s : ℕ) (xs : List ℕ) → Lacks s (without s xs)
@@ -59,12 +59,12 @@ without_length s (x ∷ xs) d =
       | inr ne ↦ let q : length (without s (x ∷ xs)) ≡ suc (length (without s xs)) = ap length (without_other s x xs ne) in let h = without_length s xs d.1 in omega arith
     ]
 
-lower : (n : ℕ) (xs : List ℕ) → All (λ x. x < suc n) xs → Lacks n xs → All (λ x. x < n) xs
+lower : (n : ℕ) (xs : List ℕ) → AllByRecursion (λ x. x < suc n) xs → Lacks n xs → AllByRecursion (λ x. x < n) xs
 lower n [] h l = tt
 lower n (x ∷ xs) h l = (let a = h.0 in let b = l.0 in omega arith, lower n xs h.1 l.1)
 
 -- the rule of holes
-pub few : (n : ℕ) (xs : List ℕ) → Differ xs → All (λ x. x < n) xs → length xs ≤ n
+pub few : (n : ℕ) (xs : List ℕ) → Differ xs → AllByRecursion (λ x. x < n) xs → length xs ≤ n
 few zero [] d h = omega arith
 few zero (x ∷ xs) d h = absurd (omega (arith, h.0))
 few (suc n) xs d h =
@@ -73,7 +73,7 @@ few (suc n) xs d h =
     omega arith
 
 -- the slots of a ring differ: each has another before it, and the first the head
-path_apart : (nx pv : ℕ → ℕ) (heads l : ℕ) (xs : List ℕ) → Path nx pv l xs l → l < heads → All (λ x. heads ≤ x) xs → Apart xs
+path_apart : (nx pv : ℕ → ℕ) (heads l : ℕ) (xs : List ℕ) → Path nx pv l xs l → l < heads → AllByRecursion (λ x. heads ≤ x) xs → Apart xs
 path_apart nx pv heads l xs p hl al zero zero ij jl e = omega arith
 path_apart nx pv heads l xs p hl al zero (suc j) ij jl e =
     let a = path_prev nx pv l xs l 0 p (omega arith) in
@@ -85,15 +85,15 @@ path_apart nx pv heads l xs p hl al (suc i) zero ij jl e = omega arith
 path_apart nx pv heads l xs p hl al (suc i) (suc j) ij jl e =
     path_apart nx pv heads l xs p hl al i j (omega arith) (omega arith) (sym (path_prev nx pv l xs l (suc i) p (omega arith)) ∙ ap pv e ∙ path_prev nx pv l xs l (suc j) p jl)
 
-pub path_differ : (nx pv : ℕ → ℕ) (heads l : ℕ) (xs : List ℕ) → Path nx pv l xs l → l < heads → All (λ x. heads ≤ x) xs → Differ xs
+pub path_differ : (nx pv : ℕ → ℕ) (heads l : ℕ) (xs : List ℕ) → Path nx pv l xs l → l < heads → AllByRecursion (λ x. heads ≤ x) xs → Differ xs
 path_differ nx pv heads l xs p hl al = differ_from xs (path_apart nx pv heads l xs p hl al)
 
-pub before_all : (P : ℕ → Type 0) (n s : ℕ) (xs : List ℕ) (b : ℕ) → P s → All P xs → All P (before n s xs b)
+pub before_all : (P : ℕ → Type 0) (n s : ℕ) (xs : List ℕ) (b : ℕ) → P s → AllByRecursion P xs → AllByRecursion P (before n s xs b)
 unfolding before
-before_all P n s [] b ps h = cond_both (eqb b n) (s ∷ []) [] (All P) (λ _. (ps, tt)) (λ _. tt)
+before_all P n s [] b ps h = cond_both (eqb b n) (s ∷ []) [] (AllByRecursion P) (λ _. (ps, tt)) (λ _. tt)
 before_all P n s (x ∷ xs) b ps h =
     let r = before_all P n s xs b ps h.1 in
-    cond_both (eqb x n) (s ∷ (x ∷ before n s xs b)) (x ∷ before n s xs b) (All P) (λ _. (ps, (h.0, r))) (λ _. (h.0, r))
+    cond_both (eqb x n) (s ∷ (x ∷ before n s xs b)) (x ∷ before n s xs b) (AllByRecursion P) (λ _. (ps, (h.0, r))) (λ _. (h.0, r))
 
 -- at the end of the list
 pub before_end : (n s : ℕ) (xs : List ℕ) (b : ℕ) → Lacks n xs → b ≡ n → before n s xs b ≡ xs ++ (s ∷ [])

@@ -1,6 +1,6 @@
 -- Nodes moved from ring to ring. Assumes nothing.
 use Rattle.std.proofs.Common.{◌≡◌, ℕ, zero, suc, ◌+◌, ◌-◌, ◌*◌, ◌<◌, ◌≤◌, eqb, List, [], ◌∷◌, ◌++◌, length, get_or, take, drop, set, sym, refl, ap, ◌∙◌, subst, inl, inr, arith, length-set}
-use Rattle.std.specs.List.{AllByRecursion as All}
+use Rattle.std.specs.List.{AllByRecursion}
 use Rattle.std.proofs.lemmas.Bool.{cases_eq, cond-true, cond-false, eq-eqb, ne_eqb}
 use Rattle.std.proofs.lemmas.List.{set_past, set-get_or, length-take-le, get_or-take}
 use Rattle.std.proofs.ByRecursion.{All-get_or, All-from_get_or, All-weaker}
@@ -131,7 +131,7 @@ module _ (heads nodes : ℕ) (ws : List ℕ) (held : Held heads nodes ws) (h s :
       u.next_else y (λ q. nh (sym e ∙ ap (next ws) q ∙ kn.1.0)) n ∙ e
 
 -- words with the same links
-same_path : (nx pv nx' pv' : ℕ → ℕ) (nodes : ℕ) → ((n : ℕ) → n < nodes → (nx' n ≡ nx n) × (pv' n ≡ pv n)) → (a : ℕ) (xs : List ℕ) (b : ℕ) → a < nodes → All (λ x. x < nodes) xs → b < nodes → Path nx pv a xs b → Path nx' pv' a xs b
+same_path : (nx pv nx' pv' : ℕ → ℕ) (nodes : ℕ) → ((n : ℕ) → n < nodes → (nx' n ≡ nx n) × (pv' n ≡ pv n)) → (a : ℕ) (xs : List ℕ) (b : ℕ) → a < nodes → AllByRecursion (λ x. x < nodes) xs → b < nodes → Path nx pv a xs b → Path nx' pv' a xs b
 unfolding Path
 same_path nx pv nx' pv' nodes s a [] b ha al hb p = ((s a ha).0 ∙ p.0, (s b hb).1 ∙ p.1)
 same_path nx pv nx' pv' nodes s a (x ∷ xs) b ha al hb p = (((s a ha).0 ∙ p.0.0, (s x al.0).1 ∙ p.0.1), same_path nx pv nx' pv' nodes s x xs b al.0 al.1 hb p.1)

@@ -1,6 +1,6 @@
 -- Rings in words, and what the two writers do to them. Assumes nothing.
 use Rattle.std.proofs.Common.{◌≡◌, ℕ, zero, suc, ◌+◌, ◌*◌, ◌<◌, ◌≤◌, ltb, List, [], ◌∷◌, length, get_or, drop, set, sym, refl, ap, ◌∙◌, subst, inl, inr, arith, length-set}
-use Rattle.std.specs.List.{AllByRecursion as All}
+use Rattle.std.specs.List.{AllByRecursion}
 use Rattle.std.proofs.lemmas.Bool.{cases_eq, cond_both}
 use Rattle.std.proofs.lemmas.List.{get_or-set_same, get_or-set_other, drop-set-lt}
 use Rattle.std.proofs.ByRecursion.{All-get_or, All-from_get_or}
@@ -8,15 +8,15 @@ use Rattle.rings.specs.Rings.{Lacks, Differ, next, prev, Path, walk, ring, Knit,
 use Rattle.rings.proofs.Paths.{Unlinks, Links, unlink_path, link_path, path_prev, walk_path, walk_slots}
 use Rattle.rings.proofs.Holes.{before_all, few, path_differ, without_all, apart_from}
 
-walk_within : (nx : ℕ → ℕ) (heads nodes k x : ℕ) → ((n : ℕ) → n < nodes → nx n < nodes) → x < nodes → All (λ y. y < nodes) (walk nx heads k x)
+walk_within : (nx : ℕ → ℕ) (heads nodes k x : ℕ) → ((n : ℕ) → n < nodes → nx n < nodes) → x < nodes → AllByRecursion (λ y. y < nodes) (walk nx heads k x)
 unfolding walk
 walk_within nx heads nodes zero x w h = tt
 walk_within nx heads nodes (suc k) x w h =
-    cond_both (ltb x heads) [] (x ∷ walk nx heads k (nx x)) (λ ys. All (λ y. y < nodes) ys) (λ _. tt) (λ e. (h, walk_within nx heads nodes k (nx x) w (w x h)))
+    cond_both (ltb x heads) [] (x ∷ walk nx heads k (nx x)) (λ ys. AllByRecursion (λ y. y < nodes) ys) (λ _. tt) (λ e. (h, walk_within nx heads nodes k (nx x) w (w x h)))
 
 -- the slots of a ring
 abbrev pub Slots : ℕ → ℕ → List ℕ → Type 0
-Slots heads nodes xs = All (λ x. heads ≤ x) xs × All (λ x. x < nodes) xs
+Slots heads nodes xs = AllByRecursion (λ x. heads ≤ x) xs × AllByRecursion (λ x. x < nodes) xs
 
 -- a ring's list is known by the links
 pub ring_is : (heads nodes : ℕ) (ws : List ℕ) (l : ℕ) (xs : List ℕ) → l < heads → Path (next ws) (prev ws) l xs l → Slots heads nodes xs → ring heads nodes ws l ≡ xs

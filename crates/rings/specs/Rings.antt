@@ -1,7 +1,7 @@
 -- Rings of nodes in words. Node n has the node after it at word 2n and the node before it at word 2n + 1.
 -- Nodes below `heads` are the heads of rings, and the others are slots. A slot in no ring is linked to itself. Assumes nothing.
 use Rattle.std.specs.Prelude.{◌≡◌, ℕ, zero, suc, ◌+◌, ◌*◌, ◌<◌, ◌≤◌, Bool, cond, not, ◌&&◌, List, [], ◌∷◌, length, Some, None, filter, Option, ◌==◌, ◌≢◌, nat_le, nat_lt, slice_index, slice_index_or, slice_set}
-use Rattle.std.specs.List.{AllByRecursion as All}
+use Rattle.std.specs.List.{AllByRecursion}
 
 -- the node after node n
 abbrev pub next : List ℕ → ℕ → ℕ
@@ -63,7 +63,7 @@ Apart xs = (i j : ℕ) → i < j → j < length xs → slice_index xs i ≢ slic
 
 -- s is none of xs
 abbrev pub Lacks : ℕ → List ℕ → Type 0
-Lacks s xs = All (λ x. x ≢ s) xs
+Lacks s xs = AllByRecursion (λ x. x ≢ s) xs
 
 -- no two are the same, by heads and tails
 unfoldable pub Differ : List ℕ → Type 0

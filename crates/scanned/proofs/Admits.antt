@@ -1,6 +1,6 @@
 -- A clause more in a scanned store. Assumes nothing.
 use Rattle.std.proofs.Common.{◌≡◌, ℕ, ◌+◌, ◌-◌, ◌*◌, ◌<◌, ◌≤◌, Bool, true, not, ◌&&◌, eqb, ltb, List, [], ◌∷◌, ◌++◌, map, length, get_or, take, drop, sym, refl, ap, ◌∙◌, subst, inl, inr, arith}
-use Rattle.std.specs.List.{AllByRecursion as All}
+use Rattle.std.specs.List.{AllByRecursion}
 use Rattle.std.proofs.lemmas.Bool.{cases_lt, cases_eq, cond-true, lt-ltb}
 use Rattle.std.proofs.lemmas.List.{length_push, get_or_at, get_or_append_left}
 use Rattle.std.proofs.ByRecursion.{All-get_or, All-from_get_or, All-push}
@@ -33,7 +33,7 @@ passes_same room ws vs y t v =
     ap (λ (d : List ℕ). any_to 2048 (λ k. has k (was_of room vs y) && not (eqb k (last d)))) t
     ∙ ap (λ (d : List ℕ). any_to 2048 (λ k. has k d && not (eqb k (last (text_of room ws y))))) v
 
-all_of_map : (P : ℕ → Type 0) (f : ℕ → ℕ) (xs : List ℕ) → All (λ n. P (f n)) xs → All P (map f xs)
+all_of_map : (P : ℕ → Type 0) (f : ℕ → ℕ) (xs : List ℕ) → AllByRecursion (λ n. P (f n)) xs → AllByRecursion P (map f xs)
 all_of_map P f [] h = tt
 all_of_map P f (x ∷ xs) h = (h.0, all_of_map P f xs h.1)
 
@@ -148,7 +148,7 @@ module _ (room : ℕ) (ix : Bool) (ws vs : List ℕ) (w : Whole room ix ws) (som
       past k (omega arith) ∙ (elim (cases_lt y x) [ inl lt ↦ wr.low k (omega arith) | inr ge ↦ let gt : x < y = omega arith in wr.high k (omega arith) ])
 
   -- the slots of an own list, and those of the sequence
-  each : (P Q' : ℕ → Type 0) (l : ℕ) → l < 2048 → ((y : ℕ) → 2051 ≤ y → y < 2051 + room → (y ≡ x → ⊥) → P y → Q' y) → All P (Q l) → All Q' (Q l)
+  each : (P Q' : ℕ → Type 0) (l : ℕ) → l < 2048 → ((y : ℕ) → 2051 ≤ y → y < 2051 + room → (y ≡ x → ⊥) → P y → Q' y) → AllByRecursion P (Q l) → AllByRecursion Q' (Q l)
   each P Q' l h f al =
       All-from_get_or Q' (Q l) 0 (λ i k.
       let lk = lacks_other 2051 N ws w.held 2048 0 l (omega arith) (omega arith) place.0 (λ q. omega arith) in
@@ -157,7 +157,7 @@ module _ (room : ℕ) (ix : Bool) (ws vs : List ℕ) (w : Whole room ix ws) (som
   x_loose : next ws (x + room) ≡ x + room
   x_loose = subst (λ (y : ℕ). next ws (y + room) ≡ y + room) place.1 (All-get_or (λ y. next ws (y + room) ≡ y + room) (Q 2048) 0 0 place.0 w.loose)
 
-  each_seq : (P Q' : ℕ → Type 0) → ((y : ℕ) → 2051 ≤ y → y < 2051 + room → (y ≡ x → ⊥) → P y → Q' y) → All (λ n. P (n - room)) (Q 2050) → All (λ n. Q' (n - room)) (Q 2050)
+  each_seq : (P Q' : ℕ → Type 0) → ((y : ℕ) → 2051 ≤ y → y < 2051 + room → (y ≡ x → ⊥) → P y → Q' y) → AllByRecursion (λ n. P (n - room)) (Q 2050) → AllByRecursion (λ n. Q' (n - room)) (Q 2050)
   each_seq P Q' f al =
       All-from_get_or (λ n. Q' (n - room)) (Q 2050) 0 (λ i k.
       let a = All-get_or (λ n. 2051 + room ≤ n) (Q 2050) i 0 k w.high in
@@ -190,11 +190,11 @@ module _ (room : ℕ) (ix : Bool) (ws vs : List ℕ) (w : Whole room ix ws) (som
   was_here = ap (λ (n : ℕ). take n (drop (text_at room x + 2) us)) was_size ∙ words_here
 
   -- what holds of the slots of the own lists
-  owned : (P : ℕ → ℕ → Type 0) → ((l : ℕ) → l < 2048 → All (P l) (Q l)) → P l0 x → (l : ℕ) → l < 2048 → All (P l) (rg room us l)
+  owned : (P : ℕ → ℕ → Type 0) → ((l : ℕ) → l < 2048 → AllByRecursion (P l) (Q l)) → P l0 x → (l : ℕ) → l < 2048 → AllByRecursion (P l) (rg room us l)
   owned P old new l h =
       elim (cases_eq l l0) [
-        | inl e ↦ subst (All (P l)) (sym (ring_own l e)) (All-push (P l) (Q l0) x (subst (λ (m : ℕ). All (P l) (Q m)) e (old l h)) (subst (λ (m : ℕ). P m x) (sym e) new))
-        | inr n ↦ subst (All (P l)) (sym (ring_else l (omega arith) n (λ q. omega arith))) (old l h)
+        | inl e ↦ subst (AllByRecursion (P l)) (sym (ring_own l e)) (All-push (P l) (Q l0) x (subst (λ (m : ℕ). AllByRecursion (P l) (Q m)) e (old l h)) (subst (λ (m : ℕ). P m x) (sym e) new))
+        | inr n ↦ subst (AllByRecursion (P l)) (sym (ring_else l (omega arith) n (λ q. omega arith))) (old l h)
       ]
 
   admit_total : total 2048 (λ l. length (rg room us l)) ≡ total 2048 (λ l. length (Q l)) + 1
@@ -215,15 +215,15 @@ module _ (room : ℕ) (ix : Bool) (ws vs : List ℕ) (w : Whole room ix ws) (som
         low = λ l h. elim (cases_lt l 2048) [
           | inl lt ↦ owned (λ l y. y < 2051 + room) (λ l h. w.low l (omega arith)) sx1 l lt
           | inr ge ↦ elim (cases_eq l 2048) [
-            | inl e ↦ subst (λ (m : ℕ). All (λ y. y < 2051 + room) (rg room us m)) (sym e) (subst (All (λ y. y < 2051 + room)) (sym ring_free) (drop_at_all (λ y. y < 2051 + room) 0 (Q 2048) (w.low 2048 (omega arith))))
-            | inr n ↦ subst (All (λ y. y < 2051 + room)) (sym (ring_else l (omega arith) (λ q. omega arith) n)) (w.low l h)
+            | inl e ↦ subst (λ (m : ℕ). AllByRecursion (λ y. y < 2051 + room) (rg room us m)) (sym e) (subst (AllByRecursion (λ y. y < 2051 + room)) (sym ring_free) (drop_at_all (λ y. y < 2051 + room) 0 (Q 2048) (w.low 2048 (omega arith))))
+            | inr n ↦ subst (AllByRecursion (λ y. y < 2051 + room)) (sym (ring_else l (omega arith) (λ q. omega arith) n)) (w.low l h)
           ]
         ];
-        high = subst (All (λ n. 2051 + room ≤ n)) (sym (ring_else 2050 (omega arith) (λ q. omega arith) (λ q. omega arith))) w.high;
+        high = subst (AllByRecursion (λ n. 2051 + room ≤ n)) (sym (ring_else 2050 (omega arith) (λ q. omega arith) (λ q. omega arith))) w.high;
         sizes = owned (λ l y. get_or us (text_at room y) 0 < 33) (λ l h. each (λ y. get_or ws (text_at room y) 0 < 33) (λ y. get_or us (text_at room y) 0 < 33) l h (λ y a b n p. let e = size_same y a b n in omega arith) (w.sizes l h)) (let e = size_here in let f = wl.short in omega arith);
         wells = owned (λ l y. well_formed (text_of room us y) ≡ true) (λ l h. each (λ y. (get_or ws (text_at room y) 0 < 33) × (well_formed (text_of room ws y) ≡ true)) (λ y. well_formed (text_of room us y) ≡ true) l h (λ y a b n p. ap well_formed (text_stays y a b n p.0) ∙ p.1) (both (λ y. get_or ws (text_at room y) 0 < 33) (λ y. well_formed (text_of room ws y) ≡ true) (Q l) (w.sizes l h) (w.wells l h))) (ap well_formed text_here ∙ good);
         ends = owned (λ l y. last (text_of room us y) ≡ l) (λ l h. each (λ y. (get_or ws (text_at room y) 0 < 33) × (last (text_of room ws y) ≡ l)) (λ y. last (text_of room us y) ≡ l) l h (λ y a b n p. ap last (text_stays y a b n p.0) ∙ p.1) (both (λ y. get_or ws (text_at room y) 0 < 33) (λ y. last (text_of room ws y) ≡ l) (Q l) (w.sizes l h) (w.ends l h))) (ap last text_here);
-        spans = subst (All (λ n. (get_or us (text_at room (n - room)) 0 < 33) × (get_or us (text_at room (n - room) + 1) 0 < 33))) (sym (ring_else 2050 (omega arith) (λ q. omega arith) (λ q. omega arith))) (each_seq (λ y. (get_or ws (text_at room y) 0 < 33) × (get_or ws (text_at room y + 1) 0 < 33)) (λ y. (get_or us (text_at room y) 0 < 33) × (get_or us (text_at room y + 1) 0 < 33)) (λ y a b n p. let e = size_same y a b n in let f = block y a b n (text_at room y + 1) (omega arith) (omega arith) in let p0 = p.0 in let p1 = p.1 in (omega arith, omega arith)) w.spans);
+        spans = subst (AllByRecursion (λ n. (get_or us (text_at room (n - room)) 0 < 33) × (get_or us (text_at room (n - room) + 1) 0 < 33))) (sym (ring_else 2050 (omega arith) (λ q. omega arith) (λ q. omega arith))) (each_seq (λ y. (get_or ws (text_at room y) 0 < 33) × (get_or ws (text_at room y + 1) 0 < 33)) (λ y. (get_or us (text_at room y) 0 < 33) × (get_or us (text_at room y + 1) 0 < 33)) (λ y a b n p. let e = size_same y a b n in let f = block y a b n (text_at room y + 1) (omega arith) (omega arith) in let p0 = p.0 in let p1 = p.1 in (omega arith, omega arith)) w.spans);
         sized =
             let t = admit_total in
             let f : length (rg room us 2048) ≡ length (Q 2048) - 1 = ap length ring_free ∙ drop_at_length 0 (Q 2048) place.0 in
@@ -231,16 +231,16 @@ module _ (room : ℕ) (ix : Bool) (ws vs : List ℕ) (w : Whole room ix ws) (som
             let z = w.sized in
             let p0 = place.0 in
             omega arith;
-        loose = subst (All (λ y. next us (y + room) ≡ y + room)) (sym ring_free) (drop_at_all (λ y. next us (y + room) ≡ y + room) 0 (Q 2048) (All-from_get_or (λ y. next us (y + room) ≡ y + room) (Q 2048) 0 (λ i k.
+        loose = subst (AllByRecursion (λ y. next us (y + room) ≡ y + room)) (sym ring_free) (drop_at_all (λ y. next us (y + room) ≡ y + room) 0 (Q 2048) (All-from_get_or (λ y. next us (y + room) ≡ y + room) (Q 2048) 0 (λ i k.
             let a = (slot_at 2051 N ws w.held 2048 i (omega arith) k).0 in
             let b = All-get_or (λ y. y < 2051 + room) (Q 2048) i 0 k (w.low 2048 (omega arith)) in
             stays (get_or (Q 2048) i 0 + room) (omega arith) (omega arith) (All-get_or (λ y. next ws (y + room) ≡ y + room) (Q 2048) i 0 k w.loose))));
         joins = λ n g h lk. stays n (omega arith) h (w.joins n g h (subst (Lacks n) (ring_else 2050 (omega arith) (λ q. omega arith) (λ q. omega arith)) lk));
-        used = subst (All (λ n. any_to 2048 (λ k. passes room us k (n - room)) ≡ true)) (sym (ring_else 2050 (omega arith) (λ q. omega arith) (λ q. omega arith))) (each_seq (λ y. ((get_or ws (text_at room y) 0 < 33) × (get_or ws (text_at room y + 1) 0 < 33)) × (any_to 2048 (λ k. passes room ws k y) ≡ true)) (λ y. any_to 2048 (λ k. passes room us k y) ≡ true) (λ y a b n p. passes_same room ws us y (text_stays y a b n p.0.0) (was_same room ws us y us_length (block y a b n) p.0.1) ∙ p.1) (both (λ n. (get_or ws (text_at room (n - room)) 0 < 33) × (get_or ws (text_at room (n - room) + 1) 0 < 33)) (λ n. any_to 2048 (λ k. passes room ws k (n - room)) ≡ true) (Q 2050) w.spans w.used));
+        used = subst (AllByRecursion (λ n. any_to 2048 (λ k. passes room us k (n - room)) ≡ true)) (sym (ring_else 2050 (omega arith) (λ q. omega arith) (λ q. omega arith))) (each_seq (λ y. ((get_or ws (text_at room y) 0 < 33) × (get_or ws (text_at room y + 1) 0 < 33)) × (any_to 2048 (λ k. passes room ws k y) ≡ true)) (λ y. any_to 2048 (λ k. passes room us k y) ≡ true) (λ y a b n p. passes_same room ws us y (text_stays y a b n p.0.0) (was_same room ws us y us_length (block y a b n) p.0.1) ∙ p.1) (both (λ n. (get_or ws (text_at room (n - room)) 0 < 33) × (get_or ws (text_at room (n - room) + 1) 0 < 33)) (λ n. any_to 2048 (λ k. passes room ws k (n - room)) ≡ true) (Q 2050) w.spans w.used));
         off = λ e. (ring_else 2049 (omega arith) (λ q. omega arith) (λ q. omega arith) ∙ (w.off e).0, ring_else 2050 (omega arith) (λ q. omega arith) (λ q. omega arith) ∙ (w.off e).1);
       }
     where
-      both : (P Q' : ℕ → Type 0) (ys : List ℕ) → All P ys → All Q' ys → All (λ y. P y × Q' y) ys
+      both : (P Q' : ℕ → Type 0) (ys : List ℕ) → AllByRecursion P ys → AllByRecursion Q' ys → AllByRecursion (λ y. P y × Q' y) ys
       both P Q' [] p q = tt
       both P Q' (y ∷ ys) p q = ((p.0, q.0), both P Q' ys p.1 q.1)
 
@@ -266,8 +266,8 @@ module _ (room : ℕ) (ix : Bool) (ws vs : List ℕ) (w : Whole room ix ws) (som
         deads = dead_is room us some ∙ ap length (ring_else 2049 (omega arith) (λ q. omega arith) (λ q. omega arith)) ∙ sym (dead_is room ws some);
         here = text_here;
         was = was_here;
-        same = own_by (λ l xs. All (λ y. text_of room us y ≡ text_of room ws y) xs) room ws (λ l. tt) (λ r l h. each (λ y. get_or ws (text_at room y) 0 < 33) (λ y. text_of room us y ≡ text_of room ws y) l h text_stays (w.sizes l h));
-        sames = subst (All (λ y. (text_of room us y ≡ text_of room ws y) × (was_of room us y ≡ was_of room ws y))) (sym (seq_is room ws some)) (all_of_map (λ y. (text_of room us y ≡ text_of room ws y) × (was_of room us y ≡ was_of room ws y)) (λ n. n - room) (Q 2050) (each_seq (λ y. (get_or ws (text_at room y) 0 < 33) × (get_or ws (text_at room y + 1) 0 < 33)) (λ y. (text_of room us y ≡ text_of room ws y) × (was_of room us y ≡ was_of room ws y)) (λ y a b n p. (text_stays y a b n p.0, was_same room ws us y us_length (block y a b n) p.1)) w.spans));
+        same = own_by (λ l xs. AllByRecursion (λ y. text_of room us y ≡ text_of room ws y) xs) room ws (λ l. tt) (λ r l h. each (λ y. get_or ws (text_at room y) 0 < 33) (λ y. text_of room us y ≡ text_of room ws y) l h text_stays (w.sizes l h));
+        sames = subst (AllByRecursion (λ y. (text_of room us y ≡ text_of room ws y) × (was_of room us y ≡ was_of room ws y))) (sym (seq_is room ws some)) (all_of_map (λ y. (text_of room us y ≡ text_of room ws y) × (was_of room us y ≡ was_of room ws y)) (λ n. n - room) (Q 2050) (each_seq (λ y. (get_or ws (text_at room y) 0 < 33) × (get_or ws (text_at room y + 1) 0 < 33)) (λ y. (text_of room us y ≡ text_of room ws y) × (was_of room us y ≡ was_of room ws y)) (λ y a b n p. (text_stays y a b n p.0, was_same room ws us y us_length (block y a b n) p.1)) w.spans));
         alone = moved_still 2051 N vs held0 2048 0 (omega arith) in0 l0 (omega arith) x is0 (x + room) (let a = x_slot.0 in omega arith) (omega arith) ((links (x + room) (omega arith)).0 ∙ x_loose);
       }
 

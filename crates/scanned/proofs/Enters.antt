@@ -1,6 +1,6 @@
 -- The meaning after a clause was entered. Assumes nothing.
 use Rattle.std.proofs.Common.{◌≡◌, ℕ, zero, suc, ◌+◌, ◌<◌, ◌≤◌, Bool, true, false, cond, not, ◌&&◌, ◌||◌, eqb, ltb, List, [], ◌∷◌, ◌++◌, length, get_or, filter, sym, refl, ap, ◌∙◌, subst, inl, inr, arith}
-use Rattle.std.specs.List.{AllByRecursion as All}
+use Rattle.std.specs.List.{AllByRecursion}
 use Rattle.std.proofs.lemmas.Bool.{cases_eq, cases_Bool, cond-true, cond-false, lt-ltb, le-ltb, and_from, and_right, eq-eqb, ne_eqb, or_left, or_right}
 use Rattle.std.proofs.lemmas.Bool.Decides.{nat_tests}
 use Rattle.std.proofs.lemmas.List.Elements.{filter-append}
@@ -42,7 +42,7 @@ has_front k (x ∷ (y ∷ ys)) o =
       | inr n ↦ let t = ne_eqb k x n in rw (t) ih
     ]
 
-kept_same : (p q : ℕ → Bool) (xs : List ℕ) → All (λ x. p x ≡ q x) xs → filter p xs ≡ filter q xs
+kept_same : (p q : ℕ → Bool) (xs : List ℕ) → AllByRecursion (λ x. p x ≡ q x) xs → filter p xs ≡ filter q xs
 kept_same p q [] h = refl
 kept_same p q (x ∷ xs) h = let a = h.0 in let b = kept_same p q xs h.1 in cc
 
@@ -54,7 +54,7 @@ pass room ws k x = has k (was_of room ws x) && not (eqb k (last (text_of room ws
 
 -- with no place in the sequence
 module _ (room : ℕ) (ix : Bool) (ws vs : List ℕ) (x : ℕ) (c : List ℕ) (a : Admitted room ws vs x c) where
-  seq_pass : (k : ℕ) → All (λ y. pass room vs k y ≡ pass room ws k y) (seq_of room ws)
+  seq_pass : (k : ℕ) → AllByRecursion (λ y. pass room vs k y ≡ pass room ws k y) (seq_of room ws)
   seq_pass k = All-weaker (λ y. (text_of room vs y ≡ text_of room ws y) × (was_of room vs y ≡ was_of room ws y)) (λ y. pass room vs k y ≡ pass room ws k y) (λ y q. let q0 = q.0 in let q1 = q.1 in cc) (seq_of room ws) a.sames
 
   used_same : (k : ℕ) → used_of room vs k ≡ used_of room ws k
@@ -65,7 +65,7 @@ module _ (room : ℕ) (ix : Bool) (ws vs : List ℕ) (x : ℕ) (c : List ℕ) (a
   unfolding used_of
   used_lacks k = lacks_kept x (pass room ws k) (seq_of room ws) a.unused
 
-  used_text : (k : ℕ) → All (λ y. text_of room vs y ≡ text_of room ws y) (used_of room ws k)
+  used_text : (k : ℕ) → AllByRecursion (λ y. text_of room vs y ≡ text_of room ws y) (used_of room ws k)
   unfolding used_of
   used_text k = all_kept_by (pass room ws k) (λ y. text_of room vs y ≡ text_of room ws y) (seq_of room ws) (All-weaker (λ y. (text_of room vs y ≡ text_of room ws y) × (was_of room vs y ≡ was_of room ws y)) (λ y. text_of room vs y ≡ text_of room ws y) (λ y q. q.0) (seq_of room ws) a.sames)
 
@@ -84,7 +84,7 @@ module _ (room : ℕ) (ix : Bool) (ws vs : List ℕ) (x : ℕ) (c : List ℕ) (a
         let xs = seq_of room ws in
         let pu = pass room us k in
         let e1 : seq_of room us ≡ xs ++ (x ∷ []) = j.seqs ∙ ap (λ (ys : List ℕ). ys ++ (x ∷ [])) a.seqs in
-        let s1 : All (λ y. pu y ≡ pass room ws k y) xs = All-weaker (λ y. pass room vs k y ≡ pass room ws k y) (λ y. pu y ≡ pass room ws k y) (λ y q. (let t = j.texts y in let v = j.wass y in cc)) xs (seq_pass k) in
+        let s1 : AllByRecursion (λ y. pu y ≡ pass room ws k y) xs = All-weaker (λ y. pass room vs k y ≡ pass room ws k y) (λ y. pu y ≡ pass room ws k y) (λ y q. (let t = j.texts y in let v = j.wass y in cc)) xs (seq_pass k) in
         let old : filter pu xs ≡ filter (pass room ws k) xs = kept_same pu (pass room ws k) xs s1 in
         let here : pu x ≡ has k (front c) = (let t = j.texts x ∙ a.here in let v = j.wass x ∙ a.was in ap (λ (d : List ℕ). has k (was_of room us x) && not (eqb k (last d))) t ∙ ap (λ (d : List ℕ). has k d && not (eqb k (last c))) v ∙ has_front k c good) in
         let both : (ix && has k (front c)) ≡ has k (front c) = ap (λ (b : Bool). b && has k (front c)) on in

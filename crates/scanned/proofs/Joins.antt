@@ -1,6 +1,6 @@
 -- A slot more in the sequence. Assumes nothing.
 use Rattle.std.proofs.Common.{◌≡◌, ℕ, ◌+◌, ◌-◌, ◌*◌, ◌<◌, ◌≤◌, Bool, true, List, [], ◌∷◌, ◌++◌, map, length, get_or, take, drop, sym, refl, ap, ◌∙◌, subst, inl, inr, arith}
-use Rattle.std.specs.List.{AllByRecursion as All}
+use Rattle.std.specs.List.{AllByRecursion}
 use Rattle.std.proofs.lemmas.Bool.{cases_lt, both_ways}
 use Rattle.std.proofs.lemmas.List.{map_push}
 use Rattle.std.proofs.ByRecursion.{All-get_or, All-from_get_or, All-push, All-weaker}
@@ -19,11 +19,11 @@ use Rattle.scanned.proofs.Totals.{total_same}
 use Rattle.scanned.proofs.Frames.{from_drop, drop_more}
 use Rattle.scanned.proofs.Admits.{seq_is, dead_is, passes_same}
 
-all_append_left : (P : ℕ → Type 0) (xs ys : List ℕ) → All P (xs ++ ys) → All P xs
+all_append_left : (P : ℕ → Type 0) (xs ys : List ℕ) → AllByRecursion P (xs ++ ys) → AllByRecursion P xs
 all_append_left P [] ys h = tt
 all_append_left P (x ∷ xs) ys h = (h.0, all_append_left P xs ys h.1)
 
-all_append_right : (P : ℕ → Type 0) (xs ys : List ℕ) → All P (xs ++ ys) → All P ys
+all_append_right : (P : ℕ → Type 0) (xs ys : List ℕ) → AllByRecursion P (xs ++ ys) → AllByRecursion P ys
 all_append_right P [] ys h = h
 all_append_right P (x ∷ xs) ys h = all_append_right P xs ys h.1
 
@@ -88,14 +88,14 @@ module _ (room : ℕ) (ix : Bool) (ws : List ℕ) (w : Whole room ix ws) (some :
   join_whole = record {
     long = let a = w.long in let b = long1 in omega arith;
     held = held1;
-    low = λ l h. subst (All (λ y. y < 2051 + room)) (sym (else1 l h)) (w.low l h);
-    high = subst (All (λ m. 2051 + room ≤ m)) (sym seq1) (All-push (λ m. 2051 + room ≤ m) (Q 2050) n w.high (let a = lo.slot.0 in omega arith));
-    sizes = λ l h. subst (All (λ y. get_or vs (text_at room y) 0 < 33)) (sym (else1 l (omega arith))) (All-weaker (λ y. get_or ws (text_at room y) 0 < 33) (λ y. get_or vs (text_at room y) 0 < 33) (λ y q. let e = size_past room ws vs dropped (text_at room y) (omega arith) in omega arith) (Q l) (w.sizes l h));
-    wells = λ l h. subst (All (λ y. well_formed (text_of room vs y) ≡ true)) (sym (else1 l (omega arith))) (All-weaker (λ y. well_formed (text_of room ws y) ≡ true) (λ y. well_formed (text_of room vs y) ≡ true) (λ y q. ap well_formed (text_past room ws vs dropped y) ∙ q) (Q l) (w.wells l h));
-    ends = λ l h. subst (All (λ y. last (text_of room vs y) ≡ l)) (sym (else1 l (omega arith))) (All-weaker (λ y. last (text_of room ws y) ≡ l) (λ y. last (text_of room vs y) ≡ l) (λ y q. ap last (text_past room ws vs dropped y) ∙ q) (Q l) (w.ends l h));
-    spans = subst (All (λ m. (get_or vs (text_at room (m - room)) 0 < 33) × (get_or vs (text_at room (m - room) + 1) 0 < 33))) (sym seq1) (All-push (λ m. (get_or vs (text_at room (m - room)) 0 < 33) × (get_or vs (text_at room (m - room) + 1) 0 < 33)) (Q 2050) n (All-weaker (λ m. (get_or ws (text_at room (m - room)) 0 < 33) × (get_or ws (text_at room (m - room) + 1) 0 < 33)) (λ m. (get_or vs (text_at room (m - room)) 0 < 33) × (get_or vs (text_at room (m - room) + 1) 0 < 33)) (λ m q. span (m - room) q) (Q 2050) w.spans) (subst (λ (y : ℕ). (get_or vs (text_at room y) 0 < 33) × (get_or vs (text_at room y + 1) 0 < 33)) here (span x lo.sizes)));
+    low = λ l h. subst (AllByRecursion (λ y. y < 2051 + room)) (sym (else1 l h)) (w.low l h);
+    high = subst (AllByRecursion (λ m. 2051 + room ≤ m)) (sym seq1) (All-push (λ m. 2051 + room ≤ m) (Q 2050) n w.high (let a = lo.slot.0 in omega arith));
+    sizes = λ l h. subst (AllByRecursion (λ y. get_or vs (text_at room y) 0 < 33)) (sym (else1 l (omega arith))) (All-weaker (λ y. get_or ws (text_at room y) 0 < 33) (λ y. get_or vs (text_at room y) 0 < 33) (λ y q. let e = size_past room ws vs dropped (text_at room y) (omega arith) in omega arith) (Q l) (w.sizes l h));
+    wells = λ l h. subst (AllByRecursion (λ y. well_formed (text_of room vs y) ≡ true)) (sym (else1 l (omega arith))) (All-weaker (λ y. well_formed (text_of room ws y) ≡ true) (λ y. well_formed (text_of room vs y) ≡ true) (λ y q. ap well_formed (text_past room ws vs dropped y) ∙ q) (Q l) (w.wells l h));
+    ends = λ l h. subst (AllByRecursion (λ y. last (text_of room vs y) ≡ l)) (sym (else1 l (omega arith))) (All-weaker (λ y. last (text_of room ws y) ≡ l) (λ y. last (text_of room vs y) ≡ l) (λ y q. ap last (text_past room ws vs dropped y) ∙ q) (Q l) (w.ends l h));
+    spans = subst (AllByRecursion (λ m. (get_or vs (text_at room (m - room)) 0 < 33) × (get_or vs (text_at room (m - room) + 1) 0 < 33))) (sym seq1) (All-push (λ m. (get_or vs (text_at room (m - room)) 0 < 33) × (get_or vs (text_at room (m - room) + 1) 0 < 33)) (Q 2050) n (All-weaker (λ m. (get_or ws (text_at room (m - room)) 0 < 33) × (get_or ws (text_at room (m - room) + 1) 0 < 33)) (λ m. (get_or vs (text_at room (m - room)) 0 < 33) × (get_or vs (text_at room (m - room) + 1) 0 < 33)) (λ m q. span (m - room) q) (Q 2050) w.spans) (subst (λ (y : ℕ). (get_or vs (text_at room y) 0 < 33) × (get_or vs (text_at room y + 1) 0 < 33)) here (span x lo.sizes)));
     sized = let t = total_same 2048 (λ l. length (rg room vs l)) (λ l. length (Q l)) (λ l h. ap length (else1 l (omega arith))) in let a = ap length (else1 2048 (omega arith)) in let b = ap length (else1 2049 (omega arith)) in let z = w.sized in omega arith;
-    loose = subst (All (λ y. next vs (y + room) ≡ y + room)) (sym (else1 2048 (omega arith))) (All-from_get_or (λ y. next vs (y + room) ≡ y + room) (Q 2048) 0 (λ i k.
+    loose = subst (AllByRecursion (λ y. next vs (y + room) ≡ y + room)) (sym (else1 2048 (omega arith))) (All-from_get_or (λ y. next vs (y + room) ≡ y + room) (Q 2048) 0 (λ i k.
         let a = (slot_at 2051 N ws w.held 2048 i (omega arith) k).0 in
         let b = All-get_or (λ y. y < 2051 + room) (Q 2048) i 0 k (w.low 2048 (omega arith)) in
         stays (get_or (Q 2048) i 0 + room) (omega arith) (omega arith) (λ q. All-get_or (λ y. y ≡ x → ⊥) (Q 2048) i 0 k lo.busy (omega arith)) (All-get_or (λ y. next ws (y + room) ≡ y + room) (Q 2048) i 0 k w.loose)));
@@ -104,7 +104,7 @@ module _ (room : ℕ) (ix : Bool) (ws : List ℕ) (w : Whole room ix ws) (some :
         let p = all_append_left (λ y. y ≡ m → ⊥) (Q 2050) (n ∷ []) lk2 in
         let q = (all_append_right (λ y. y ≡ m → ⊥) (Q 2050) (n ∷ []) lk2).0 in
         stays m (omega arith) h (λ e. q (sym e)) (w.joins m g h p);
-    used = subst (All (λ m. any_to 2048 (λ k. passes room vs k (m - room)) ≡ true)) (sym seq1) (All-push (λ m. any_to 2048 (λ k. passes room vs k (m - room)) ≡ true) (Q 2050) n (All-weaker (λ m. any_to 2048 (λ k. passes room ws k (m - room)) ≡ true) (λ m. any_to 2048 (λ k. passes room vs k (m - room)) ≡ true) (λ m q. passes_same room ws vs (m - room) (text_past room ws vs dropped (m - room)) (was_past room ws vs dropped (m - room)) ∙ q) (Q 2050) w.used) (ap (λ (y : ℕ). any_to 2048 (λ k. passes room vs k y)) (sym here) ∙ passes_same room ws vs x (text_past room ws vs dropped x) (was_past room ws vs dropped x) ∙ uses));
+    used = subst (AllByRecursion (λ m. any_to 2048 (λ k. passes room vs k (m - room)) ≡ true)) (sym seq1) (All-push (λ m. any_to 2048 (λ k. passes room vs k (m - room)) ≡ true) (Q 2050) n (All-weaker (λ m. any_to 2048 (λ k. passes room ws k (m - room)) ≡ true) (λ m. any_to 2048 (λ k. passes room vs k (m - room)) ≡ true) (λ m q. passes_same room ws vs (m - room) (text_past room ws vs dropped (m - room)) (was_past room ws vs dropped (m - room)) ∙ q) (Q 2050) w.used) (ap (λ (y : ℕ). any_to 2048 (λ k. passes room vs k y)) (sym here) ∙ passes_same room ws vs x (text_past room ws vs dropped x) (was_past room ws vs dropped x) ∙ uses));
     off = λ e. absurd (both_ways ix e on);
   }
     where

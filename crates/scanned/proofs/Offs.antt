@@ -1,7 +1,7 @@
 -- The index dropped. Assumes nothing.
 use Rattle.std.proofs.Common.{◌≡◌, ℕ, ◌+◌, ◌-◌, ◌*◌, ◌<◌, ◌≤◌, Bool, true, false, not, ◌&&◌, eqb, ltb, List, [], ◌∷◌, ◌++◌, map, length, get_or, drop, Some, None, filter, Option, sym, refl, ap, ◌∙◌, subst, inl, inr, arith, length-set}
 use mathlib.Core.Path.{fun_ext}
-use Rattle.std.specs.List.{AllByRecursion as All}
+use Rattle.std.specs.List.{AllByRecursion}
 use Rattle.std.proofs.lemmas.Bool.{cases_lt, cases_eq, cond-true, cond-false, lt-ltb, le-ltb, both_ways}
 use Rattle.std.proofs.lemmas.List.{length_push, nil_from_length}
 use Rattle.std.proofs.ByRecursion.{All-get_or, All-from_get_or, All-push, All-weaker}
@@ -118,21 +118,21 @@ module _ (room : ℕ) (ws : List ℕ) (w : Whole room true ws) (n : ℕ) (at0 : 
   cut_whole = record {
     long = let a = w.long in let b = long1 in omega arith;
     held = c1.held';
-    low = λ l h. subst (All (λ y. y < 2051 + room)) (sym (r1 l h)) (w.low l h);
-    high = subst (All (λ y. 2051 + room ≤ y)) (sym rs) (without_all (λ y. 2051 + room ≤ y) n (Q 2050) w.high);
-    sizes = λ l h. subst (All (λ y. get_or vs (text_at room y) 0 < 33)) (sym (r1 l (omega arith))) (All-weaker (λ y. get_or ws (text_at room y) 0 < 33) (λ y. get_or vs (text_at room y) 0 < 33) (λ y q. let e = past1 (text_at room y) (omega arith) in omega arith) (Q l) (w.sizes l h));
-    wells = λ l h. subst (All (λ y. well_formed (text_of room vs y) ≡ true)) (sym (r1 l (omega arith))) (All-weaker (λ y. well_formed (text_of room ws y) ≡ true) (λ y. well_formed (text_of room vs y) ≡ true) (λ y q. ap well_formed (text_past room ws vs c1.drop' y) ∙ q) (Q l) (w.wells l h));
-    ends = λ l h. subst (All (λ y. last (text_of room vs y) ≡ l)) (sym (r1 l (omega arith))) (All-weaker (λ y. last (text_of room ws y) ≡ l) (λ y. last (text_of room vs y) ≡ l) (λ y q. ap last (text_past room ws vs c1.drop' y) ∙ q) (Q l) (w.ends l h));
-    spans = subst (All (λ y. (get_or vs (text_at room (y - room)) 0 < 33) × (get_or vs (text_at room (y - room) + 1) 0 < 33))) (sym rs) (without_all (λ y. (get_or vs (text_at room (y - room)) 0 < 33) × (get_or vs (text_at room (y - room) + 1) 0 < 33)) n (Q 2050) (All-weaker (λ y. (get_or ws (text_at room (y - room)) 0 < 33) × (get_or ws (text_at room (y - room) + 1) 0 < 33)) (λ y. (get_or vs (text_at room (y - room)) 0 < 33) × (get_or vs (text_at room (y - room) + 1) 0 < 33)) (λ y q. let e = past1 (text_at room (y - room)) (omega arith) in let f = past1 (text_at room (y - room) + 1) (omega arith) in let q0 = q.0 in let q1 = q.1 in (omega arith, omega arith)) (Q 2050) w.spans));
+    low = λ l h. subst (AllByRecursion (λ y. y < 2051 + room)) (sym (r1 l h)) (w.low l h);
+    high = subst (AllByRecursion (λ y. 2051 + room ≤ y)) (sym rs) (without_all (λ y. 2051 + room ≤ y) n (Q 2050) w.high);
+    sizes = λ l h. subst (AllByRecursion (λ y. get_or vs (text_at room y) 0 < 33)) (sym (r1 l (omega arith))) (All-weaker (λ y. get_or ws (text_at room y) 0 < 33) (λ y. get_or vs (text_at room y) 0 < 33) (λ y q. let e = past1 (text_at room y) (omega arith) in omega arith) (Q l) (w.sizes l h));
+    wells = λ l h. subst (AllByRecursion (λ y. well_formed (text_of room vs y) ≡ true)) (sym (r1 l (omega arith))) (All-weaker (λ y. well_formed (text_of room ws y) ≡ true) (λ y. well_formed (text_of room vs y) ≡ true) (λ y q. ap well_formed (text_past room ws vs c1.drop' y) ∙ q) (Q l) (w.wells l h));
+    ends = λ l h. subst (AllByRecursion (λ y. last (text_of room vs y) ≡ l)) (sym (r1 l (omega arith))) (All-weaker (λ y. last (text_of room ws y) ≡ l) (λ y. last (text_of room vs y) ≡ l) (λ y q. ap last (text_past room ws vs c1.drop' y) ∙ q) (Q l) (w.ends l h));
+    spans = subst (AllByRecursion (λ y. (get_or vs (text_at room (y - room)) 0 < 33) × (get_or vs (text_at room (y - room) + 1) 0 < 33))) (sym rs) (without_all (λ y. (get_or vs (text_at room (y - room)) 0 < 33) × (get_or vs (text_at room (y - room) + 1) 0 < 33)) n (Q 2050) (All-weaker (λ y. (get_or ws (text_at room (y - room)) 0 < 33) × (get_or ws (text_at room (y - room) + 1) 0 < 33)) (λ y. (get_or vs (text_at room (y - room)) 0 < 33) × (get_or vs (text_at room (y - room) + 1) 0 < 33)) (λ y q. let e = past1 (text_at room (y - room)) (omega arith) in let f = past1 (text_at room (y - room) + 1) (omega arith) in let q0 = q.0 in let q1 = q.1 in (omega arith, omega arith)) (Q 2050) w.spans));
     sized = let t = total_same 2048 (λ l. length (rg room vs l)) (λ l. length (Q l)) (λ l h. ap length (r1 l (omega arith))) in let a = ap length (r1 2048 (omega arith)) in let b = ap length (r1 2049 (omega arith)) in let z = w.sized in omega arith;
-    loose = subst (All (λ y. next vs (y + room) ≡ y + room)) (sym (r1 2048 (omega arith))) (All-from_get_or (λ y. next vs (y + room) ≡ y + room) (Q 2048) 0 (λ j k.
+    loose = subst (AllByRecursion (λ y. next vs (y + room) ≡ y + room)) (sym (r1 2048 (omega arith))) (All-from_get_or (λ y. next vs (y + room) ≡ y + room) (Q 2048) 0 (λ j k.
         let q = All-get_or (λ y. y < 2051 + room) (Q 2048) j 0 k (w.low 2048 (omega arith)) in
         c1.still' (get_or (Q 2048) j 0 + room) (omega arith) (All-get_or (λ y. next ws (y + room) ≡ y + room) (Q 2048) j 0 k w.loose)));
     joins = λ m g h lk. elim (cases_eq m n) [
       | inl e ↦ ap (next vs) e ∙ c1.alone' ∙ sym e
       | inr ne ↦ c1.still' m h (w.joins m g h (lacks_without m n (Q 2050) ne (subst (Lacks m) rs lk)))
     ];
-    used = subst (All (λ y. any_to 2048 (λ k. passes room vs k (y - room)) ≡ true)) (sym rs) (without_all (λ y. any_to 2048 (λ k. passes room vs k (y - room)) ≡ true) n (Q 2050) (All-weaker (λ y. any_to 2048 (λ k. passes room ws k (y - room)) ≡ true) (λ y. any_to 2048 (λ k. passes room vs k (y - room)) ≡ true) (λ y q. passes_same room ws vs (y - room) (text_past room ws vs c1.drop' (y - room)) (was_past room ws vs c1.drop' (y - room)) ∙ q) (Q 2050) w.used));
+    used = subst (AllByRecursion (λ y. any_to 2048 (λ k. passes room vs k (y - room)) ≡ true)) (sym rs) (without_all (λ y. any_to 2048 (λ k. passes room vs k (y - room)) ≡ true) n (Q 2050) (All-weaker (λ y. any_to 2048 (λ k. passes room ws k (y - room)) ≡ true) (λ y. any_to 2048 (λ k. passes room vs k (y - room)) ≡ true) (λ y q. passes_same room ws vs (y - room) (text_past room ws vs c1.drop' (y - room)) (was_past room ws vs c1.drop' (y - room)) ∙ q) (Q 2050) w.used));
     off = λ e. absurd (both_ways true e refl);
   }
 
@@ -204,24 +204,24 @@ module _ (room : ℕ) (ws : List ℕ) (w : Whole room true ws) (none : rg room w
     long = let a = w.long in let b = long2 in omega arith;
     held = moved_held 2051 (node_count room) ws w.held 2049 0 (omega arith) at0.0 2048 (omega arith) x at0.1;
     low = λ l h. elim (cases_lt l 2048) [
-      | inl lt ↦ subst (All (λ y. y < 2051 + room)) (sym (r_low l lt)) (w.low l h)
+      | inl lt ↦ subst (AllByRecursion (λ y. y < 2051 + room)) (sym (r_low l lt)) (w.low l h)
       | inr ge ↦ elim (cases_eq l 2048) [
-        | inl e ↦ subst (λ (k : ℕ). All (λ y. y < 2051 + room) (rg room us k)) (sym e) (subst (All (λ y. y < 2051 + room)) (sym r_free) (All-push (λ y. y < 2051 + room) (P 2048) x (w.low 2048 (omega arith)) xs.1))
-        | inr ne ↦ let e : l ≡ 2049 = omega arith in subst (λ (k : ℕ). All (λ y. y < 2051 + room) (rg room us k)) (sym e) (subst (All (λ y. y < 2051 + room)) (sym r_gone) (drop_at_all (λ y. y < 2051 + room) 0 (P 2049) (w.low 2049 (omega arith))))
+        | inl e ↦ subst (λ (k : ℕ). AllByRecursion (λ y. y < 2051 + room) (rg room us k)) (sym e) (subst (AllByRecursion (λ y. y < 2051 + room)) (sym r_free) (All-push (λ y. y < 2051 + room) (P 2048) x (w.low 2048 (omega arith)) xs.1))
+        | inr ne ↦ let e : l ≡ 2049 = omega arith in subst (λ (k : ℕ). AllByRecursion (λ y. y < 2051 + room) (rg room us k)) (sym e) (subst (AllByRecursion (λ y. y < 2051 + room)) (sym r_gone) (drop_at_all (λ y. y < 2051 + room) 0 (P 2049) (w.low 2049 (omega arith))))
       ]
     ];
-    high = subst (All (λ y. 2051 + room ≤ y)) (sym free_none) tt;
-    sizes = λ l h. subst (All (λ y. get_or us (text_at room y) 0 < 33)) (sym (r_low l h)) (All-weaker (λ y. get_or ws (text_at room y) 0 < 33) (λ y. get_or us (text_at room y) 0 < 33) (λ y q. let e = past2 (text_at room y) (omega arith) in omega arith) (P l) (w.sizes l h));
-    wells = λ l h. subst (All (λ y. well_formed (text_of room us y) ≡ true)) (sym (r_low l h)) (All-weaker (λ y. well_formed (text_of room ws y) ≡ true) (λ y. well_formed (text_of room us y) ≡ true) (λ y q. ap well_formed (text_past room ws us dr y) ∙ q) (P l) (w.wells l h));
-    ends = λ l h. subst (All (λ y. last (text_of room us y) ≡ l)) (sym (r_low l h)) (All-weaker (λ y. last (text_of room ws y) ≡ l) (λ y. last (text_of room us y) ≡ l) (λ y q. ap last (text_past room ws us dr y) ∙ q) (P l) (w.ends l h));
-    spans = subst (All (λ y. (get_or us (text_at room (y - room)) 0 < 33) × (get_or us (text_at room (y - room) + 1) 0 < 33))) (sym free_none) tt;
+    high = subst (AllByRecursion (λ y. 2051 + room ≤ y)) (sym free_none) tt;
+    sizes = λ l h. subst (AllByRecursion (λ y. get_or us (text_at room y) 0 < 33)) (sym (r_low l h)) (All-weaker (λ y. get_or ws (text_at room y) 0 < 33) (λ y. get_or us (text_at room y) 0 < 33) (λ y q. let e = past2 (text_at room y) (omega arith) in omega arith) (P l) (w.sizes l h));
+    wells = λ l h. subst (AllByRecursion (λ y. well_formed (text_of room us y) ≡ true)) (sym (r_low l h)) (All-weaker (λ y. well_formed (text_of room ws y) ≡ true) (λ y. well_formed (text_of room us y) ≡ true) (λ y q. ap well_formed (text_past room ws us dr y) ∙ q) (P l) (w.wells l h));
+    ends = λ l h. subst (AllByRecursion (λ y. last (text_of room us y) ≡ l)) (sym (r_low l h)) (All-weaker (λ y. last (text_of room ws y) ≡ l) (λ y. last (text_of room us y) ≡ l) (λ y q. ap last (text_past room ws us dr y) ∙ q) (P l) (w.ends l h));
+    spans = subst (AllByRecursion (λ y. (get_or us (text_at room (y - room)) 0 < 33) × (get_or us (text_at room (y - room) + 1) 0 < 33))) (sym free_none) tt;
     sized = let t = total_same 2048 (λ l. length (rg room us l)) (λ l. length (P l)) (λ l h. ap length (r_low l h)) in let a = ap length r_free ∙ length_push (P 2048) x in let b = gone_length in let c = at0.0 in let z = w.sized in omega arith;
-    loose = subst (All (λ y. next us (y + room) ≡ y + room)) (sym r_free) (All-push (λ y. next us (y + room) ≡ y + room) (P 2048) x (All-from_get_or (λ y. next us (y + room) ≡ y + room) (P 2048) 0 (λ j k.
+    loose = subst (AllByRecursion (λ y. next us (y + room) ≡ y + room)) (sym r_free) (All-push (λ y. next us (y + room) ≡ y + room) (P 2048) x (All-from_get_or (λ y. next us (y + room) ≡ y + room) (P 2048) 0 (λ j k.
         let p = (slot_at 2051 (node_count room) ws w.held 2048 j (omega arith) k).0 in
         let q = All-get_or (λ y. y < 2051 + room) (P 2048) j 0 k (w.low 2048 (omega arith)) in
         stays (get_or (P 2048) j 0 + room) (omega arith) (omega arith) (All-get_or (λ y. next ws (y + room) ≡ y + room) (P 2048) j 0 k w.loose))) x_alone);
     joins = λ m g h lk. stays m (omega arith) h (w.joins m g h (subst (Lacks m) (sym none) tt));
-    used = subst (All (λ y. any_to 2048 (λ k. passes room us k (y - room)) ≡ true)) (sym free_none) tt;
+    used = subst (AllByRecursion (λ y. any_to 2048 (λ k. passes room us k (y - room)) ≡ true)) (sym free_none) tt;
     off = λ e. absurd (both_ways true e refl);
   }
 

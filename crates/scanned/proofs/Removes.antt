@@ -1,7 +1,7 @@
 -- A clause removed from a scanned store. Assumes nothing.
 use Rattle.std.proofs.Common.{◌≡◌, ℕ, ◌+◌, ◌-◌, ◌*◌, ◌<◌, ◌≤◌, Bool, true, not, ◌&&◌, eqb, ltb, List, [], ◌∷◌, ◌++◌, map, length, get_or, take, drop, set, filter, sym, refl, ap, ◌∙◌, subst, inl, inr, arith}
 use mathlib.Core.Path.{fun_ext}
-use Rattle.std.specs.List.{AllByRecursion as All}
+use Rattle.std.specs.List.{AllByRecursion}
 use Rattle.std.proofs.lemmas.Bool.{cases_lt, cases_eq, cases_Bool, cond-true, cond-false, cond_both, lt-ltb}
 use Rattle.std.proofs.lemmas.List.{length_push, length-take-le, length-set, length-map}
 use Rattle.std.proofs.ByRecursion.{All-get_or, All-from_get_or, All-push, All-weaker, All-set, All-take}
@@ -35,7 +35,7 @@ lacks_without m n (y ∷ ys) ne h =
     ]
 
 -- a slot out of the sequence
-map_without : (room x : ℕ) (ns : List ℕ) → All (λ n. room ≤ n) ns → map (λ n. n - room) (without (x + room) ns) ≡ without x (map (λ n. n - room) ns)
+map_without : (room x : ℕ) (ns : List ℕ) → AllByRecursion (λ n. room ≤ n) ns → map (λ n. n - room) (without (x + room) ns) ≡ without x (map (λ n. n - room) ns)
 map_without room x [] h = refl
 map_without room x (n ∷ ns) h =
     let h0 = h.0 in
@@ -195,16 +195,16 @@ module _ (room : ℕ) (ix : Bool) (ws : List ℕ) (w : Whole room ix ws) (some :
       let u = length-set (take (length (Q l) - 1) (Q l)) i (get_or (Q l) (length (Q l) - 1) 0) in
       omega arith
 
-  new_all : (P : ℕ → Type 0) → All P (Q l) → All P new
+  new_all : (P : ℕ → Type 0) → AllByRecursion P (Q l) → AllByRecursion P new
   new_all P al =
       let p = xr.0 in
       All-set P (take (length (Q l) - 1) (Q l)) i (get_or (Q l) (length (Q l) - 1) 0) (All-get_or P (Q l) (length (Q l) - 1) 0 (omega arith) al) (All-take P (length (Q l) - 1) (Q l) al)
 
-  owned : (P : ℕ → ℕ → Type 0) → ((m : ℕ) → m < 2048 → All (P m) (Q m)) → (m : ℕ) → m < 2048 → All (P m) (rg room v3 m)
+  owned : (P : ℕ → ℕ → Type 0) → ((m : ℕ) → m < 2048 → AllByRecursion (P m) (Q m)) → (m : ℕ) → m < 2048 → AllByRecursion (P m) (rg room v3 m)
   owned P old m h =
       elim (cases_eq m l) [
-        | inl e ↦ subst (All (P m)) (sym (ring_own m e)) (new_all (P m) (subst (λ (k : ℕ). All (P m) (Q k)) e (old m h)))
-        | inr ne ↦ subst (All (P m)) (sym (ring_else m (omega arith) ne (λ q. omega arith))) (old m h)
+        | inl e ↦ subst (AllByRecursion (P m)) (sym (ring_own m e)) (new_all (P m) (subst (λ (k : ℕ). AllByRecursion (P m) (Q k)) e (old m h)))
+        | inr ne ↦ subst (AllByRecursion (P m)) (sym (ring_else m (omega arith) ne (λ q. omega arith))) (old m h)
       ]
 
   remove_total : total 2048 (λ m. length (rg room v3 m)) + 1 ≡ total 2048 (λ m. length (Q m))
@@ -224,17 +224,17 @@ module _ (room : ℕ) (ix : Bool) (ws : List ℕ) (w : Whole room ix ws) (some :
     low = λ m h. elim (cases_lt m 2048) [
       | inl lt ↦ owned (λ _ y. y < 2051 + room) (λ m h. w.low m (omega arith)) m lt
       | inr ge ↦ elim (cases_eq m 2048) [
-        | inl e ↦ subst (λ (k : ℕ). All (λ y. y < 2051 + room) (rg room v3 k)) (sym e) (subst (All (λ y. y < 2051 + room)) (sym ring_free) (All-push (λ y. y < 2051 + room) (Q 2048) x (w.low 2048 (omega arith)) xs.1))
-        | inr ne ↦ let p = ll in subst (All (λ y. y < 2051 + room)) (sym (ring_else m h (λ q. omega arith) ne)) (w.low m h)
+        | inl e ↦ subst (λ (k : ℕ). AllByRecursion (λ y. y < 2051 + room) (rg room v3 k)) (sym e) (subst (AllByRecursion (λ y. y < 2051 + room)) (sym ring_free) (All-push (λ y. y < 2051 + room) (Q 2048) x (w.low 2048 (omega arith)) xs.1))
+        | inr ne ↦ let p = ll in subst (AllByRecursion (λ y. y < 2051 + room)) (sym (ring_else m h (λ q. omega arith) ne)) (w.low m h)
       ]
     ];
-    high = subst (All (λ y. 2051 + room ≤ y)) (sym ring_seq) (without_all (λ y. 2051 + room ≤ y) n (Q 2050) w.high);
+    high = subst (AllByRecursion (λ y. 2051 + room ≤ y)) (sym ring_seq) (without_all (λ y. 2051 + room ≤ y) n (Q 2050) w.high);
     sizes = owned (λ _ y. get_or v3 (text_at room y) 0 < 33) (λ m h. All-weaker (λ y. get_or ws (text_at room y) 0 < 33) (λ y. get_or v3 (text_at room y) 0 < 33) (λ y q. let e = sizes_past (text_at room y) (omega arith) in omega arith) (Q m) (w.sizes m h));
     wells = owned (λ _ y. well_formed (text_of room v3 y) ≡ true) (λ m h. All-weaker (λ y. well_formed (text_of room ws y) ≡ true) (λ y. well_formed (text_of room v3 y) ≡ true) (λ y q. ap well_formed (text_past room ws v3 drop3 y) ∙ q) (Q m) (w.wells m h));
     ends = owned (λ m y. last (text_of room v3 y) ≡ m) (λ m h. All-weaker (λ y. last (text_of room ws y) ≡ m) (λ y. last (text_of room v3 y) ≡ m) (λ y q. ap last (text_past room ws v3 drop3 y) ∙ q) (Q m) (w.ends m h));
-    spans = subst (All (λ y. (get_or v3 (text_at room (y - room)) 0 < 33) × (get_or v3 (text_at room (y - room) + 1) 0 < 33))) (sym ring_seq) (without_all (λ y. (get_or v3 (text_at room (y - room)) 0 < 33) × (get_or v3 (text_at room (y - room) + 1) 0 < 33)) n (Q 2050) (All-weaker (λ y. (get_or ws (text_at room (y - room)) 0 < 33) × (get_or ws (text_at room (y - room) + 1) 0 < 33)) (λ y. (get_or v3 (text_at room (y - room)) 0 < 33) × (get_or v3 (text_at room (y - room) + 1) 0 < 33)) (λ y q. let e = sizes_past (text_at room (y - room)) (omega arith) in let f = sizes_past (text_at room (y - room) + 1) (omega arith) in let q0 = q.0 in let q1 = q.1 in (omega arith, omega arith)) (Q 2050) w.spans));
+    spans = subst (AllByRecursion (λ y. (get_or v3 (text_at room (y - room)) 0 < 33) × (get_or v3 (text_at room (y - room) + 1) 0 < 33))) (sym ring_seq) (without_all (λ y. (get_or v3 (text_at room (y - room)) 0 < 33) × (get_or v3 (text_at room (y - room) + 1) 0 < 33)) n (Q 2050) (All-weaker (λ y. (get_or ws (text_at room (y - room)) 0 < 33) × (get_or ws (text_at room (y - room) + 1) 0 < 33)) (λ y. (get_or v3 (text_at room (y - room)) 0 < 33) × (get_or v3 (text_at room (y - room) + 1) 0 < 33)) (λ y q. let e = sizes_past (text_at room (y - room)) (omega arith) in let f = sizes_past (text_at room (y - room) + 1) (omega arith) in let q0 = q.0 in let q1 = q.1 in (omega arith, omega arith)) (Q 2050) w.spans));
     sized = let p = ll in let t = remove_total in let e = ap length ring_free ∙ length_push (Q 2048) x in let d = ap length (ring_else 2049 (omega arith) (λ q. omega arith) (λ q. omega arith)) in let z = w.sized in omega arith;
-    loose = subst (All (λ y. next v3 (y + room) ≡ y + room)) (sym ring_free) (All-push (λ y. next v3 (y + room) ≡ y + room) (Q 2048) x (All-from_get_or (λ y. next v3 (y + room) ≡ y + room) (Q 2048) 0 (λ j k.
+    loose = subst (AllByRecursion (λ y. next v3 (y + room) ≡ y + room)) (sym ring_free) (All-push (λ y. next v3 (y + room) ≡ y + room) (Q 2048) x (All-from_get_or (λ y. next v3 (y + room) ≡ y + room) (Q 2048) 0 (λ j k.
         let p = (slot_at 2051 N ws w.held 2048 j (omega arith) k).0 in
         let q = All-get_or (λ y. y < 2051 + room) (Q 2048) j 0 k (w.low 2048 (omega arith)) in
         let x1 = xs.1 in
@@ -246,7 +246,7 @@ module _ (room : ℕ) (ix : Bool) (ws : List ℕ) (w : Whole room ix ws) (some :
           | inl e ↦ ap (next v3) e ∙ still3 n ns.0 ns.1 (λ z. omega arith) c1.alone' ∙ sym e
           | inr ne ↦ still3 m (omega arith) h (λ z. omega arith) (c1.still' m h (w.joins m g h (lacks_without m n (Q 2050) ne (subst (Lacks m) ring_seq lk))))
         ];
-    used = subst (All (λ y. any_to 2048 (λ k. passes room v3 k (y - room)) ≡ true)) (sym ring_seq) (without_all (λ y. any_to 2048 (λ k. passes room v3 k (y - room)) ≡ true) n (Q 2050) (All-weaker (λ y. any_to 2048 (λ k. passes room ws k (y - room)) ≡ true) (λ y. any_to 2048 (λ k. passes room v3 k (y - room)) ≡ true) (λ y q. passes_same room ws v3 (y - room) (text_past room ws v3 drop3 (y - room)) (was_past room ws v3 drop3 (y - room)) ∙ q) (Q 2050) w.used));
+    used = subst (AllByRecursion (λ y. any_to 2048 (λ k. passes room v3 k (y - room)) ≡ true)) (sym ring_seq) (without_all (λ y. any_to 2048 (λ k. passes room v3 k (y - room)) ≡ true) n (Q 2050) (All-weaker (λ y. any_to 2048 (λ k. passes room ws k (y - room)) ≡ true) (λ y. any_to 2048 (λ k. passes room v3 k (y - room)) ≡ true) (λ y q. passes_same room ws v3 (y - room) (text_past room ws v3 drop3 (y - room)) (was_past room ws v3 drop3 (y - room)) ∙ q) (Q 2050) w.used));
     off = λ e. let p = ll in (ring_else 2049 (omega arith) (λ q. omega arith) (λ q. omega arith) ∙ (w.off e).0, ring_seq ∙ ap (without n) (w.off e).1);
   }
 

@@ -1,7 +1,7 @@
 -- A clause retired in a scanned store. Assumes nothing.
 use Rattle.std.proofs.Common.{◌≡◌, ℕ, zero, suc, ◌+◌, ◌-◌, ◌*◌, ◌<◌, ◌≤◌, Bool, true, false, cond, not, ◌&&◌, eqb, ◌⊎◌, List, [], ◌∷◌, ◌++◌, map, length, get_or, drop, filter, sym, refl, ap, ◌∙◌, subst, inl, inr, arith}
 use mathlib.Core.Path.{fun_ext}
-use Rattle.std.specs.List.{AllByRecursion as All}
+use Rattle.std.specs.List.{AllByRecursion}
 use Rattle.std.proofs.lemmas.Bool.{cases_lt, cases_eq, cases_Bool, cond-true, cond-false, eq-eqb, ne_eqb, or_from, or_left, or_right}
 use Rattle.std.proofs.lemmas.List.{length_push, length-map, get_or-map}
 use Rattle.std.proofs.ByRecursion.{All-get_or, All-from_get_or, All-push, All-weaker, all_kept_by}
@@ -141,11 +141,11 @@ module _ (room : ℕ) (ix : Bool) (ws : List ℕ) (w : Whole room ix ws) (some :
     ring_seq : rg room vs 2050 ≡ Q 2050
     ring_seq = let p = ll in let q = hb.1 in ring_else 2050 (omega arith) (λ z. omega arith) (λ z. omega arith)
 
-    owned : (P : ℕ → ℕ → Type 0) → ((m : ℕ) → m < 2048 → All (P m) (Q m)) → (m : ℕ) → m < 2048 → All (P m) (rg room vs m)
+    owned : (P : ℕ → ℕ → Type 0) → ((m : ℕ) → m < 2048 → AllByRecursion (P m) (Q m)) → (m : ℕ) → m < 2048 → AllByRecursion (P m) (rg room vs m)
     owned P old m k =
         elim (cases_eq m l) [
-          | inl e ↦ subst (All (P m)) (sym (ring_own m e)) (drop_at_all (P m) i (Q l) (subst (λ (j : ℕ). All (P m) (Q j)) e (old m k)))
-          | inr ne ↦ let q = hb.0 in subst (All (P m)) (sym (ring_else m (omega arith) ne (λ z. omega arith))) (old m k)
+          | inl e ↦ subst (AllByRecursion (P m)) (sym (ring_own m e)) (drop_at_all (P m) i (Q l) (subst (λ (j : ℕ). AllByRecursion (P m) (Q j)) e (old m k)))
+          | inr ne ↦ let q = hb.0 in subst (AllByRecursion (P m)) (sym (ring_else m (omega arith) ne (λ z. omega arith))) (old m k)
         ]
 
     retire_total : total 2048 (λ m. length (rg room vs m)) + 1 ≡ total 2048 (λ m. length (Q m))
@@ -176,7 +176,7 @@ module _ (room : ℕ) (ix : Bool) (ws : List ℕ) (w : Whole room ix ws) (some :
               omega arith
         ]
 
-    old_loose : All (λ y. next vs (y + room) ≡ y + room) (Q 2048)
+    old_loose : AllByRecursion (λ y. next vs (y + room) ≡ y + room) (Q 2048)
     old_loose =
         All-from_get_or (λ y. next vs (y + room) ≡ y + room) (Q 2048) 0 (λ j k.
         let p = (slot_at 2051 N ws w.held 2048 j (omega arith) k).0 in
@@ -192,25 +192,25 @@ module _ (room : ℕ) (ix : Bool) (ws : List ℕ) (w : Whole room ix ws) (some :
           low = λ m k. elim (cases_lt m 2048) [
             | inl lo ↦ owned (λ _ y. y < 2051 + room) (λ m k. w.low m (omega arith)) m lo
             | inr ge ↦ elim (cases_eq m h) [
-              | inl e ↦ subst (λ (j : ℕ). All (λ y. y < 2051 + room) (rg room vs j)) (sym e) (subst (All (λ y. y < 2051 + room)) (sym ring_to) (All-push (λ y. y < 2051 + room) (Q h) x (w.low h hb.1) xs.1))
-              | inr ne ↦ subst (All (λ y. y < 2051 + room)) (sym (ring_else m (omega arith) (λ z. omega arith) ne)) (w.low m k)
+              | inl e ↦ subst (λ (j : ℕ). AllByRecursion (λ y. y < 2051 + room) (rg room vs j)) (sym e) (subst (AllByRecursion (λ y. y < 2051 + room)) (sym ring_to) (All-push (λ y. y < 2051 + room) (Q h) x (w.low h hb.1) xs.1))
+              | inr ne ↦ subst (AllByRecursion (λ y. y < 2051 + room)) (sym (ring_else m (omega arith) (λ z. omega arith) ne)) (w.low m k)
             ]
           ];
-          high = subst (All (λ y. 2051 + room ≤ y)) (sym ring_seq) w.high;
+          high = subst (AllByRecursion (λ y. 2051 + room ≤ y)) (sym ring_seq) w.high;
           sizes = owned (λ _ y. get_or vs (text_at room y) 0 < 33) (λ m k. All-weaker (λ y. get_or ws (text_at room y) 0 < 33) (λ y. get_or vs (text_at room y) 0 < 33) (λ y q. let e = sizes_past (text_at room y) (omega arith) in omega arith) (Q m) (w.sizes m k));
           wells = owned (λ _ y. well_formed (text_of room vs y) ≡ true) (λ m k. All-weaker (λ y. well_formed (text_of room ws y) ≡ true) (λ y. well_formed (text_of room vs y) ≡ true) (λ y q. ap well_formed (text_past room ws vs dr y) ∙ q) (Q m) (w.wells m k));
           ends = owned (λ m y. last (text_of room vs y) ≡ m) (λ m k. All-weaker (λ y. last (text_of room ws y) ≡ m) (λ y. last (text_of room vs y) ≡ m) (λ y q. ap last (text_past room ws vs dr y) ∙ q) (Q m) (w.ends m k));
-          spans = subst (All (λ y. (get_or vs (text_at room (y - room)) 0 < 33) × (get_or vs (text_at room (y - room) + 1) 0 < 33))) (sym ring_seq) (All-weaker (λ y. (get_or ws (text_at room (y - room)) 0 < 33) × (get_or ws (text_at room (y - room) + 1) 0 < 33)) (λ y. (get_or vs (text_at room (y - room)) 0 < 33) × (get_or vs (text_at room (y - room) + 1) 0 < 33)) (λ y q. let e = sizes_past (text_at room (y - room)) (omega arith) in let f = sizes_past (text_at room (y - room) + 1) (omega arith) in let q0 = q.0 in let q1 = q.1 in (omega arith, omega arith)) (Q 2050) w.spans);
+          spans = subst (AllByRecursion (λ y. (get_or vs (text_at room (y - room)) 0 < 33) × (get_or vs (text_at room (y - room) + 1) 0 < 33))) (sym ring_seq) (All-weaker (λ y. (get_or ws (text_at room (y - room)) 0 < 33) × (get_or ws (text_at room (y - room) + 1) 0 < 33)) (λ y. (get_or vs (text_at room (y - room)) 0 < 33) × (get_or vs (text_at room (y - room) + 1) 0 < 33)) (λ y q. let e = sizes_past (text_at room (y - room)) (omega arith) in let f = sizes_past (text_at room (y - room) + 1) (omega arith) in let q0 = q.0 in let q1 = q.1 in (omega arith, omega arith)) (Q 2050) w.spans);
           sized = let t = retire_total in let b = both_sized in let z = w.sized in omega arith;
           loose = elim to [
             | inl q ↦
                 let e = q.0 in
                 let r : rg room vs 2048 ≡ Q 2048 ++ (x ∷ []) = ap (rg room vs) (sym e) ∙ ring_to ∙ ap (λ (m : ℕ). Q m ++ (x ∷ [])) e in
-                subst (All (λ y. next vs (y + room) ≡ y + room)) (sym r) (All-push (λ y. next vs (y + room) ≡ y + room) (Q 2048) x old_loose (stays n (let p = ns.0 in omega arith) ns.1 q.1))
-            | inr q ↦ let e = q.0 in subst (All (λ y. next vs (y + room) ≡ y + room)) (sym (ring_else 2048 (omega arith) (λ z. omega arith) (λ z. omega arith))) old_loose
+                subst (AllByRecursion (λ y. next vs (y + room) ≡ y + room)) (sym r) (All-push (λ y. next vs (y + room) ≡ y + room) (Q 2048) x old_loose (stays n (let p = ns.0 in omega arith) ns.1 q.1))
+            | inr q ↦ let e = q.0 in subst (AllByRecursion (λ y. next vs (y + room) ≡ y + room)) (sym (ring_else 2048 (omega arith) (λ z. omega arith) (λ z. omega arith))) old_loose
           ];
           joins = λ m g k lk. stays m (omega arith) k (w.joins m g k (subst (Lacks m) ring_seq lk));
-          used = subst (All (λ y. any_to 2048 (λ k. passes room vs k (y - room)) ≡ true)) (sym ring_seq) (All-weaker (λ y. any_to 2048 (λ k. passes room ws k (y - room)) ≡ true) (λ y. any_to 2048 (λ k. passes room vs k (y - room)) ≡ true) (λ y q. passes_same room ws vs (y - room) (text_past room ws vs dr (y - room)) (was_past room ws vs dr (y - room)) ∙ q) (Q 2050) w.used);
+          used = subst (AllByRecursion (λ y. any_to 2048 (λ k. passes room vs k (y - room)) ≡ true)) (sym ring_seq) (All-weaker (λ y. any_to 2048 (λ k. passes room ws k (y - room)) ≡ true) (λ y. any_to 2048 (λ k. passes room vs k (y - room)) ≡ true) (λ y q. passes_same room ws vs (y - room) (text_past room ws vs dr (y - room)) (was_past room ws vs dr (y - room)) ∙ q) (Q 2050) w.used);
           off = λ e. elim to [
             | inl q ↦ let z = q.0 in (ring_else 2049 (omega arith) (λ y. omega arith) (λ y. omega arith) ∙ (w.off e).0, ring_seq ∙ (w.off e).1)
             | inr q ↦ absurd (q.1 (w.joins n ns.0 ns.1 (subst (Lacks n) (sym (w.off e).1) tt)))
@@ -267,7 +267,7 @@ module _ (room : ℕ) (ix : Bool) (ws : List ℕ) (w : Whole room ix ws) (some :
         let lk : Lacks x (seq_of room ws) = subst (Lacks x) (sym (seq_is room ws some)) (un_map (Q 2050) (alone_lacks 2051 N ws w.held n 2050 (omega arith) ns.1 al) w.high) in
         any_none 2048 (λ k. has x (filter (passes room ws k) (seq_of room ws))) (λ k. lacks_has x (filter (passes room ws k) (seq_of room ws)) (all_kept_by (passes room ws k) (λ y. y ≡ x → ⊥) (seq_of room ws) lk))
       where
-        un_map : (ys : List ℕ) → Lacks n ys → All (λ y. 2051 + room ≤ y) ys → Lacks x (map (λ y. y - room) ys)
+        un_map : (ys : List ℕ) → Lacks n ys → AllByRecursion (λ y. 2051 + room ≤ y) ys → Lacks x (map (λ y. y - room) ys)
         un_map [] p q = tt
         un_map (y ∷ ys) p q = (λ e. p.0 (let q0 = q.0 in omega arith), un_map ys p.1 q.1)
 

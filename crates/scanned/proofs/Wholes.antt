@@ -5,7 +5,7 @@ use native.Mathlib.Bridge.{le_prop}
 use mathlib.Core.HLevel.{Π_prop, ×_prop}
 use denote.Struct.Props.{≡_prop}
 use base.Stored.{coded_ℕ, coded_bool, coded_list}
-use Rattle.std.specs.List.{AllByRecursion as All}
+use Rattle.std.specs.List.{AllByRecursion}
 use Rattle.std.proofs.lemmas.Bool.{cond-true, cond-false, lt-ltb, le-ltb, and_from, and_left, and_right, cases_lt}
 use Rattle.rings.specs.Rings.{ring, next, prev, Held, Path}
 use Rattle.rings.specs.Rings.{Differ}
@@ -20,7 +20,7 @@ unfolding Path
 path_prop nx pv a [] b p q = λ i. (≡_prop coded_ℕ (nx a) b p.0 q.0 i, ≡_prop coded_ℕ (pv b) a p.1 q.1 i)
 path_prop nx pv a (x ∷ xs) b p q = λ i. ((≡_prop coded_ℕ (nx a) x p.0.0 q.0.0 i, ≡_prop coded_ℕ (pv x) a p.0.1 q.0.1 i), path_prop nx pv x xs b p.1 q.1 i)
 
-all_prop : (P : ℕ → Type 0) → ((x : ℕ) → IsProp (P x)) → (xs : List ℕ) → IsProp (All P xs)
+all_prop : (P : ℕ → Type 0) → ((x : ℕ) → IsProp (P x)) → (xs : List ℕ) → IsProp (AllByRecursion P xs)
 all_prop P h [] p q = refl
 all_prop P h (x ∷ xs) p q = λ i. (h x p.0 q.0 i, all_prop P h xs p.1 q.1 i)
 
@@ -79,9 +79,9 @@ module _ (room : ℕ) (ix : Bool) (ws : List ℕ) (s : Sound room ix ws) where
   pub kept_is : Kept (own_of room ws) (text_of room ws)
   unfolding Differ
   kept_is = record {
-    ends = own_by (λ l xs. All (λ x. last (text_of room ws x) ≡ l) xs) room ws (λ l. tt) (λ r. (s r).ends);
+    ends = own_by (λ l xs. AllByRecursion (λ x. last (text_of room ws x) ≡ l) xs) room ws (λ l. tt) (λ r. (s r).ends);
     differ = own_by (λ l xs. Differ xs) room ws (λ l. tt) (λ r l h. ring_differ 2051 (node_count room) ws (s r).held l (omega arith));
   }
 
-  pub wells_are : (l : ℕ) → All (λ x. well_formed (text_of room ws x) ≡ true) (own_of room ws l)
-  wells_are = own_by (λ l xs. All (λ x. well_formed (text_of room ws x) ≡ true) xs) room ws (λ l. tt) (λ r. (s r).wells)
+  pub wells_are : (l : ℕ) → AllByRecursion (λ x. well_formed (text_of room ws x) ≡ true) (own_of room ws l)
+  wells_are = own_by (λ l xs. AllByRecursion (λ x. well_formed (text_of room ws x) ≡ true) xs) room ws (λ l. tt) (λ r. (s r).wells)

@@ -2,7 +2,7 @@
 -- Heads of rings: own lists at 0 to 2047, the free slots at 2048, the slots of retired clauses at 2049, the sequence of indexed clauses at 2050.
 -- Slot x of `room` slots is a node from 2051 on, and node x + room is its place in the sequence. Then 34 words for each slot: length, indexed length, literals.
 use Rattle.std.specs.Prelude.{◌≡◌, ℕ, ◌+◌, ◌-◌, ◌*◌, ◌<◌, ◌≤◌, Bool, true, false, cond, not, ◌&&◌, List, [], ◌∷◌, ◌++◌, map, length, take, drop, filter, ◌==◌, ◌≢◌, nat_lt, slice_index, slice_index_or}
-use Rattle.std.specs.List.{AllByRecursion as All}
+use Rattle.std.specs.List.{AllByRecursion}
 use Rattle.rings.specs.Rings.{at, ring, next, Held, Lacks}
 use Rattle.network.specs.Clauses.{last, has, well_formed}
 use Rattle.network.specs.Lists.{In}
@@ -59,21 +59,21 @@ meaning_of room ix ws = meant room ix (own_of room ws) (used_of room ws) (text_o
 pub record Whole (room : ℕ) (ix : Bool) (ws : List ℕ) : Type 0 where
   pub long : 2 * node_count room + 34 * room ≤ length ws
   pub held : Held 2051 (node_count room) ws
-  pub low : (l : ℕ) → l < 2050 → All (λ x. x < 2051 + room) (rg room ws l)
-  pub high : All (λ n. 2051 + room ≤ n) (rg room ws 2050)
-  pub sizes : (l : ℕ) → l < 2048 → All (λ x. slice_index ws (text_at room x) < 33) (rg room ws l)
-  pub wells : (l : ℕ) → l < 2048 → All (λ x. well_formed (text_of room ws x) ≡ true) (rg room ws l)
-  pub ends : (l : ℕ) → l < 2048 → All (λ x. last (text_of room ws x) ≡ l) (rg room ws l)
+  pub low : (l : ℕ) → l < 2050 → AllByRecursion (λ x. x < 2051 + room) (rg room ws l)
+  pub high : AllByRecursion (λ n. 2051 + room ≤ n) (rg room ws 2050)
+  pub sizes : (l : ℕ) → l < 2048 → AllByRecursion (λ x. slice_index ws (text_at room x) < 33) (rg room ws l)
+  pub wells : (l : ℕ) → l < 2048 → AllByRecursion (λ x. well_formed (text_of room ws x) ≡ true) (rg room ws l)
+  pub ends : (l : ℕ) → l < 2048 → AllByRecursion (λ x. last (text_of room ws x) ≡ l) (rg room ws l)
   -- the lengths of what the sequence has
-  pub spans : All (λ n. (slice_index ws (text_at room (n - room)) < 33) × (slice_index ws (text_at room (n - room) + 1) < 33)) (rg room ws 2050)
+  pub spans : AllByRecursion (λ n. (slice_index ws (text_at room (n - room)) < 33) × (slice_index ws (text_at room (n - room) + 1) < 33)) (rg room ws 2050)
   -- each slot is free, owned or retired
   pub sized : total 2048 (λ l. length (rg room ws l)) + length (rg room ws 2048) + length (rg room ws 2049) ≡ room
   -- a free slot is not in the sequence
-  pub loose : All (λ x. next ws (x + room) ≡ x + room) (rg room ws 2048)
+  pub loose : AllByRecursion (λ x. next ws (x + room) ≡ x + room) (rg room ws 2048)
   -- a node of the sequence stands alone or in it
   pub joins : (n : ℕ) → 2051 + room ≤ n → n < node_count room → Lacks n (rg room ws 2050) → next ws n ≡ n
   -- what the sequence has is in a uses list
-  pub used : All (λ n. any_to 2048 (λ k. passes room ws k (n - room)) ≡ true) (rg room ws 2050)
+  pub used : AllByRecursion (λ n. any_to 2048 (λ k. passes room ws k (n - room)) ≡ true) (rg room ws 2050)
   -- without an index nothing is retired or in the sequence
   pub off : ix ≡ false → (rg room ws 2049 ≡ []) × (rg room ws 2050 ≡ [])
 
@@ -90,7 +90,7 @@ pub record Filled (room : ℕ) (ws : List ℕ) (i : ℕ) : Type 0 where
   pub held : Held 2051 (node_count room) ws
   pub others : (l : ℕ) → l < 2051 → (l ≢ 2048) → rg room ws l ≡ []
   pub sized : length (rg room ws 2048) ≡ i
-  pub low : All (λ x. x < 2051 + i) (rg room ws 2048)
+  pub low : AllByRecursion (λ x. x < 2051 + i) (rg room ws 2048)
   pub alone : (n : ℕ) → 2051 + i ≤ n → n < node_count room → next ws n ≡ n
 
 -- the node h is the slot at place i of the own list of l
@@ -116,8 +116,8 @@ pub record Admitted (room : ℕ) (ws vs : List ℕ) (x : ℕ) (c : List ℕ) : T
   pub deads : dead_of room vs ≡ dead_of room ws
   pub here : text_of room vs x ≡ c
   pub was : was_of room vs x ≡ c
-  pub same : (l : ℕ) → All (λ y. text_of room vs y ≡ text_of room ws y) (own_of room ws l)
-  pub sames : All (λ y. (text_of room vs y ≡ text_of room ws y) × (was_of room vs y ≡ was_of room ws y)) (seq_of room ws)
+  pub same : (l : ℕ) → AllByRecursion (λ y. text_of room vs y ≡ text_of room ws y) (own_of room ws l)
+  pub sames : AllByRecursion (λ y. (text_of room vs y ≡ text_of room ws y) × (was_of room vs y ≡ was_of room ws y)) (seq_of room ws)
   pub alone : next vs (x + room) ≡ x + room
 
 -- slot x is at the end of the sequence

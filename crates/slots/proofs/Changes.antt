@@ -1,7 +1,7 @@
 -- Retiring, shortening and the index, by slots and by the meaning. Assumes nothing.
 use Rattle.std.proofs.Common.{◌≡◌, ℕ, zero, suc, ◌+◌, ◌-◌, ◌<◌, Bool, true, false, cond, eqb, List, [], ◌∷◌, map, length, get_or, set, filter, sym, refl, ap, ◌∙◌, subst, inl, inr, arith}
 use mathlib.Core.Path.{fun_ext}
-use Rattle.std.specs.List.{AllByRecursion as All}
+use Rattle.std.specs.List.{AllByRecursion}
 use Rattle.std.proofs.lemmas.Bool.{cases_eq, cases_lt, cases_Bool, cond-true, cond-false, eq-eqb, ne_eqb, lt-ltb, le-ltb}
 use Rattle.std.proofs.lemmas.List.{map-append, get_or-map}
 use Rattle.std.proofs.ByRecursion.{All-get_or}
@@ -100,7 +100,7 @@ module _ (own text : ℕ → List ℕ) (k : Kept own text) (l i : ℕ) (h : i < 
   -- ---- a shorter clause in the same slot
   module _ (text' : ℕ → List ℕ) (v : ℕ) (short : text' (get_or (own l) i 0) ≡ without v (text (get_or (own l) i 0))) (ends : last (text' (get_or (own l) i 0)) ≡ l) where
     abbrev Same : List ℕ → Type 0
-    Same ys = All (λ y. (y ≡ get_or (own l) i 0 → ⊥) → text' y ≡ text y) ys
+    Same ys = AllByRecursion (λ y. (y ≡ get_or (own l) i 0 → ⊥) → text' y ≡ text y) ys
 
     ends_was : last (text (get_or (own l) i 0)) ≡ l
     ends_was = All-get_or (λ y. last (text y) ≡ l) (own l) i 0 h (k.ends l)
@@ -118,7 +118,7 @@ module _ (own text : ℕ → List ℕ) (k : Kept own text) (l i : ℕ) (h : i < 
     put_map [] j jl d e s = absurd (omega arith)
     put_map (x ∷ xs) zero jl d e s = ap (λ (ys : List (List ℕ)). text' x ∷ ys) (map_same text' text xs (apply xs (subst (λ (z : ℕ). Lacks z xs) e d.0) s.1))
       where
-        apply : (ys : List ℕ) → Lacks (get_or (own l) i 0) ys → Same ys → All (λ y. text' y ≡ text y) ys
+        apply : (ys : List ℕ) → Lacks (get_or (own l) i 0) ys → Same ys → AllByRecursion (λ y. text' y ≡ text y) ys
         apply [] n s = tt
         apply (y ∷ ys) n s = (s.0 n.0, apply ys n.1 s.1)
     put_map (x ∷ xs) (suc j) jl d e s =
@@ -126,7 +126,7 @@ module _ (own text : ℕ → List ℕ) (k : Kept own text) (l i : ℕ) (h : i < 
         let b = put_map xs j (omega arith) d.1 e s.1 in
         cc
 
-    others : (m : ℕ) → (m ≡ l → ⊥) → (ys : List ℕ) → All (λ y. last (text y) ≡ m) ys → Same ys → map text' ys ≡ map text ys
+    others : (m : ℕ) → (m ≡ l → ⊥) → (ys : List ℕ) → AllByRecursion (λ y. last (text y) ≡ m) ys → Same ys → map text' ys ≡ map text ys
     others m n [] es s = refl
     others m n (y ∷ ys) es s =
         let a : text' y ≡ text y = s.0 (λ q. n (sym es.0 ∙ ap (λ (w : ℕ). last (text w)) q ∙ ends_was)) in

@@ -1,7 +1,7 @@
 -- Each change of the slots is the change of the meaning. Assumes nothing.
 use Rattle.std.proofs.Common.{◌≡◌, ℕ, zero, suc, ◌+◌, ◌-◌, ◌<◌, Bool, true, false, cond, not, ◌&&◌, eqb, ◌⊎◌, List, [], ◌∷◌, ◌++◌, map, length, get_or, take, set, filter, sym, refl, ap, ◌∙◌, inl, inr, arith}
 use mathlib.Core.Path.{fun_ext}
-use Rattle.std.specs.List.{AllByRecursion as All}
+use Rattle.std.specs.List.{AllByRecursion}
 use Rattle.std.proofs.lemmas.Bool.{cases_eq, cases_Bool, not_from_true, not_from_false, cond-true, cond-false, eq-eqb, ne_eqb}
 use Rattle.std.proofs.lemmas.List.{map_push, length-map, length-set, get_or-map, get_or-take, get_or-set_same, get_or-set_other, length-take-le, map-set, take-map}
 use Rattle.std.proofs.ByRecursion.{All-get_or, All-from_get_or}
@@ -44,7 +44,7 @@ changed_else f l x k e = cond-false (eqb k l) x (f k) (ne_eqb k l e)
 pub same_meaning : (r : ℕ) (i : Bool) (o o' : ℕ → List (List ℕ)) (u u' : ℕ → List Ref) (d d' : ℕ) → ((l : ℕ) → o l ≡ o' l) → ((k : ℕ) → u k ≡ u' k) → d ≡ d' → ◌≡◌ {A = Meaning} (record { room = r; indexed = i; own = o; uses = u; dead_clauses = d }) (record { room = r; indexed = i; own = o'; uses = u'; dead_clauses = d' })
 same_meaning r i o o' u u' d d' p q e = let a = fun_ext p in let b = fun_ext q in cc
 
-pub map_same : {X Y : Type 0} (f g : X → Y) (xs : List X) → All (λ x. f x ≡ g x) xs → map f xs ≡ map g xs
+pub map_same : {X Y : Type 0} (f g : X → Y) (xs : List X) → AllByRecursion (λ x. f x ≡ g x) xs → map f xs ≡ map g xs
 map_same f g [] h = refl
 map_same f g (x ∷ xs) h = let a = h.0 in let b = map_same f g xs h.1 in cc
 
@@ -107,7 +107,7 @@ module _ (room : ℕ) (ix : Bool) (own used text own' used' text' : ℕ → List
     (free : (l : ℕ) → Lacks x (own l)) (unused : (k : ℕ) → Lacks x (used k))
     (owns : (l : ℕ) → own' l ≡ at own (last c) (own (last c) ++ (x ∷ [])) l)
     (useds : (k : ℕ) → used' k ≡ cond (ix && has k (front c)) (used k ++ (x ∷ [])) (used k))
-    (here : text' x ≡ c) (same : (l : ℕ) → All (λ y. text' y ≡ text y) (own l)) (sameu : (k : ℕ) → All (λ y. text' y ≡ text y) (used k)) where
+    (here : text' x ≡ c) (same : (l : ℕ) → AllByRecursion (λ y. text' y ≡ text y) (own l)) (sameu : (k : ℕ) → AllByRecursion (λ y. text' y ≡ text y) (used k)) where
   entered_ref : (y : ℕ) → (y ≡ x → ⊥) → text' y ≡ text y → ref own' text' y ≡ ref own text y
   entered_ref y ne e =
       let l = last (text y) in
@@ -117,7 +117,7 @@ module _ (room : ℕ) (ix : Bool) (own used text own' used' text' : ℕ → List
         | inr n ↦ a ∙ ap (seek l y 0) (owns l ∙ at_else own (last c) (own (last c) ++ (x ∷ [])) l n)
       ]
 
-  entered_refs : (ys : List ℕ) → Lacks x ys → All (λ y. text' y ≡ text y) ys → map (ref own' text') ys ≡ map (ref own text) ys
+  entered_refs : (ys : List ℕ) → Lacks x ys → AllByRecursion (λ y. text' y ≡ text y) ys → map (ref own' text') ys ≡ map (ref own text) ys
   entered_refs [] n h = refl
   entered_refs (y ∷ ys) n h = let a = entered_ref y n.0 h.0 in let b = entered_refs ys n.1 h.1 in cc
 

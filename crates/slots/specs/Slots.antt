@@ -1,7 +1,7 @@
 -- A store's meaning by slots: the slots of each own list, the slots of each list of uses, and the clause in each slot.
 -- Assumes nothing.
 use Rattle.std.specs.Prelude.{◌≡◌, ℕ, suc, ◌-◌, Bool, cond, List, [], ◌∷◌, map, length, take, ◌==◌, slice_index_or, slice_set}
-use Rattle.std.specs.List.{AllByRecursion as All}
+use Rattle.std.specs.List.{AllByRecursion}
 use Rattle.rings.specs.Rings.{Differ}
 use Rattle.network.specs.Clauses.{last}
 use Rattle.rules.specs.Store.{Meaning, Ref, live, dead}
@@ -27,7 +27,7 @@ meant room ix own used text lost = record {
 
 -- what the own lists keep: each slot's clause ends in the list's literal, and no slot is twice in a list
 pub record Kept (own : ℕ → List ℕ) (text : ℕ → List ℕ) : Type 0 where
-  pub ends : (l : ℕ) → All (λ x. last (text x) ≡ l) (own l)
+  pub ends : (l : ℕ) → AllByRecursion (λ x. last (text x) ≡ l) (own l)
   pub differ : (l : ℕ) → Differ (own l)
 
 -- the list without its place i, to which the last comes: cut first, and then written
