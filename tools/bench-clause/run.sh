@@ -5,15 +5,18 @@ here=$(cd "$(dirname "$0")" && pwd)
 root=$(cd "$here/../.." && pwd)
 temp=${1:-$(mktemp -d)}
 mkdir -p "$temp/crates/bench_clause/src"
-cp -r "$root/crates/network" "$root/crates/clause" "$temp/crates/"
+for crate in network clause; do
+    mkdir -p "$temp/crates/$crate"
+    cp -r "$root/crates/$crate/src" "$root/crates/$crate/specs" "$root/crates/$crate/proofs" "$temp/crates/$crate/"
+done
 cp "$here/wrappers.txt" "$temp/crates/bench_clause/src/lib.rt"
-printf 'network:\nclause: network\nbench_clause: network clause\n' > "$temp/crates.txt"
+printf 'network:\nclause: network\nbench_clause staticlib: network clause\n' > "$temp/crates.txt"
 # a slice of a struct crosses to C only where the struct says its layout
 sed -i 's/^pub struct Lbool/#[repr(C)]\npub struct Lbool/' "$temp/crates/clause/src/literals.rt"
-(cd "$temp" && rt staticlib bench_clause > staticlib.log 2>&1) || { tail -5 "$temp/staticlib.log"; exit 1; }
-kit=$(dirname "$(dirname "$(rt doc)")")
+(cd "$temp/crates/bench_clause" && rt lib > "$temp/lib.log" 2>&1) || { tail -5 "$temp/lib.log"; exit 1; }
+kit=$(dirname "$(rt doc)")
 rustc -O -C opt-level=3 -C codegen-units=1 -g --edition 2024 "$here/driver.rs" -o "$temp/driver" \
-    -C link-arg="$temp/target/staticlib/libbench_clause.a" -C link-arg="$kit/lib/librattle_c.a" 2> "$temp/rustc.log" || { cat "$temp/rustc.log"; exit 1; }
+    -C link-arg="$temp/crates/bench_clause/out/libbench_clause.a" -C link-arg="$kit/c/liblibc_c.a" 2> "$temp/rustc.log" || { cat "$temp/rustc.log"; exit 1; }
 count() {
     valgrind --tool=callgrind --callgrind-out-file="$temp/out.$2_$1" --toggle-collect="$2_$1" "$temp/driver" "$1" "$2" > "$temp/answer.$2" 2> "$temp/valgrind.log"
     awk '/^summary:|^totals:/ { t = $2 } END { print t }' "$temp/out.$2_$1"
