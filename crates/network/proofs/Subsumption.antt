@@ -1,4 +1,4 @@
--- `fits` answers whether a clause is part of another, but for one opposite literal. Assumes nothing.
+-- `fits_but_one` answers whether a clause is part of another, but for one opposite literal. Assumes nothing.
 use Rattle.std.proofs.Common.{◌≡◌, ℕ, ◌<◌, ◌≤◌, Bool, true, false, eqb, ltb, ◌↔◌, List, [], ◌∷◌, Some, None, Option, refl, ap, subst, inl, arith}
 use Rattle.std.proofs.lemmas.Bool.{cond_both, cases_eq, eqb-true, eqb-false}
 use Rattle.std.proofs.lemmas.Bool.Decides.{nat_tests}
