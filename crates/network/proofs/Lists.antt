@@ -1,8 +1,9 @@
 -- Membership, and tests over a list. Assumes nothing.
 use Rattle.std.proofs.Common.{◌≡◌, ℕ, Bool, true, false, ◌&&◌, ◌||◌, eqb, ◌⊎◌, List, [], ◌∷◌, ◌++◌, map, Some, None, filter, Option, sym, refl, ap, subst, inl, inr, ⊎_elim, arith}
+use Rattle.std.specs.List.{list_any}
 use Rattle.std.proofs.lemmas.Bool.{eqb-true}
 use Rattle.network.specs.Clauses.{has}
-use Rattle.network.specs.Lists.{In, any_of, all_of, gather, listed}
+use Rattle.network.specs.Lists.{In, all_of, gather, listed}
 
 module _ {X : Type 0} where
   pub in_left : (x : X) (xs ys : List X) → In x xs → In x (xs ++ ys)
@@ -33,15 +34,15 @@ module _ {X : Type 0} where
   map_in f z [] h = absurd h
   map_in f z (y ∷ xs) h = grind (arith, map_in f z xs)
 
-  pub any_from : (p : X → Bool) (xs : List X) (x : X) → In x xs → p x ≡ true → any_of p xs ≡ true
+  pub any_from : (p : X → Bool) (xs : List X) (x : X) → In x xs → p x ≡ true → list_any p xs ≡ true
   any_from p [] x h t = absurd h
   any_from p (y ∷ xs) x h t = grind (arith, any_from p xs x)
 
-  pub any_some : (p : X → Bool) (xs : List X) → any_of p xs ≡ true → (x : X) × In x xs × (p x ≡ true)
+  pub any_some : (p : X → Bool) (xs : List X) → list_any p xs ≡ true → (x : X) × In x xs × (p x ≡ true)
   any_some p [] e = grind arith
   any_some p (y ∷ xs) e = grind (arith, any_some p xs)
 
-  pub any_none : (p : X → Bool) (xs : List X) → any_of p xs ≡ false → (x : X) → In x xs → p x ≡ false
+  pub any_none : (p : X → Bool) (xs : List X) → list_any p xs ≡ false → (x : X) → In x xs → p x ≡ false
   any_none p [] e x i = absurd i
   any_none p (y ∷ xs) e x i = grind (arith, any_none p xs)
 
@@ -57,11 +58,11 @@ module _ {X : Type 0} where
   all_not p [] e = grind arith
   all_not p (y ∷ xs) e = grind (arith, all_not p xs)
 
-  pub any_same : (p q : X → Bool) (xs : List X) → ((x : X) → In x xs → p x ≡ q x) → any_of p xs ≡ any_of q xs
+  pub any_same : (p q : X → Bool) (xs : List X) → ((x : X) → In x xs → p x ≡ q x) → list_any p xs ≡ list_any q xs
   any_same p q [] h = refl
   any_same p q (y ∷ xs) h = grind (arith, h y (inl refl), any_same p q xs (λ x i. h x (inr i)))
 
-  pub any_append : (p : X → Bool) (xs ys : List X) → any_of p (xs ++ ys) ≡ (any_of p xs || any_of p ys)
+  pub any_append : (p : X → Bool) (xs ys : List X) → list_any p (xs ++ ys) ≡ (list_any p xs || list_any p ys)
   any_append p [] ys = refl
   any_append p (x ∷ xs) ys = grind (arith, any_append p xs ys)
 

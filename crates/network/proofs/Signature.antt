@@ -1,5 +1,6 @@
 -- The bits of a signature, and what two signatures tell of their clauses. Assumes nothing.
 use Rattle.std.proofs.Common.{◌≡◌, ℕ, zero, suc, ◌+◌, ◌-◌, ◌*◌, ◌/◌, ◌%◌, ◌^◌, ◌<◌, ◌≤◌, min, max, Bool, true, false, cond, not, ◌&&◌, ◌||◌, eqb, ltb, ◌⊎◌, ◌↔◌, List, [], ◌∷◌, sym, refl, ap, ◌∙◌, subst, inl, inr, ⊎_elim, one-mul, mul-div_cancel, arith}
+use Rattle.std.specs.List.{list_any}
 use native.Mathlib.Nat.{div-eq_of_lt}
 use lib.Arith.{bin_ind}
 use lib.Bits.{bit_and, bit_or, and_step, or_step, or_shr, and_self}
@@ -7,7 +8,7 @@ use lib.Count.{ones, ones_step, ones_cat}
 use Rattle.std.proofs.lemmas.Nat.{pow_pos, pow-add, pow_below, shr-shr}
 use Rattle.std.proofs.lemmas.Bool.{eq-eqb, ne_eqb, cases_order, cases_eq, cases_lt, lt-ltb, le-ltb, cond-true, cond-false, and_from}
 use Rattle.std.proofs.lemmas.Bool.Decides.{nat_tests}
-use Rattle.network.specs.Lists.{In, any_of}
+use Rattle.network.specs.Lists.{In}
 use Rattle.network.specs.Clauses.{Subsumes}
 use Rattle.network.specs.Signature.{place, bit, low, high, added, signature, bit_at, Covers, within, missing}
 use Rattle.network.proofs.Lists.{any_from, any_some}
@@ -115,13 +116,13 @@ or_max false true = refl
 or_max false false = refl
 
 module _ (f : ℕ → ℕ → ℕ) (p : ℕ → ℕ → Bool) (each : (n l j : ℕ) → bit (f n l) j ≡ max (bit n j) (cond (p j l) 1 0)) where
-  bit_from : (n : ℕ) (C : List ℕ) (j : ℕ) → bit (added f n C) j ≡ max (bit n j) (cond (any_of (p j) C) 1 0)
+  bit_from : (n : ℕ) (C : List ℕ) (j : ℕ) → bit (added f n C) j ≡ max (bit n j) (cond (list_any (p j) C) 1 0)
   bit_from n [] j = omega arith
   bit_from n (l ∷ C) j =
-      bit_from (f n l) C j ∙ ap (λ b. max b (cond (any_of (p j) C) 1 0)) (each n l j) ∙ (omega (arith, or_max (p j l) (any_of (p j) C)))
+      bit_from (f n l) C j ∙ ap (λ b. max b (cond (list_any (p j) C) 1 0)) (each n l j) ∙ (omega (arith, or_max (p j l) (list_any (p j) C)))
 
-  bit_added : (C : List ℕ) (j : ℕ) → bit (added f 0 C) j ≡ cond (any_of (p j) C) 1 0
-  bit_added C j = bit_from 0 C j ∙ ap (λ b. max b (cond (any_of (p j) C) 1 0)) (bit_zero j) ∙ omega arith
+  bit_added : (C : List ℕ) (j : ℕ) → bit (added f 0 C) j ≡ cond (list_any (p j) C) 1 0
+  bit_added C j = bit_from 0 C j ∙ ap (λ b. max b (cond (list_any (p j) C) 1 0)) (bit_zero j) ∙ omega arith
 
 -- ---- the two halves
 
@@ -147,16 +148,16 @@ bit_high n l j = pick (ltb (place l) 64)
 
 -- each bit of a half is that of a literal
 low_some : (C : List ℕ) (j : ℕ) → (bit (signature C).0 j ≡ 0) ⊎ ((l : ℕ) × In l C × (place l < 64) × (place l ≡ j) × (bit (signature C).0 j ≡ 1))
-low_some C j = go (any_of (in_low j) C) refl
+low_some C j = go (list_any (in_low j) C) refl
   where
-    go : (b : Bool) → any_of (in_low j) C ≡ b → (bit (signature C).0 j ≡ 0) ⊎ ((l : ℕ) × In l C × (place l < 64) × (place l ≡ j) × (bit (signature C).0 j ≡ 1))
+    go : (b : Bool) → list_any (in_low j) C ≡ b → (bit (signature C).0 j ≡ 0) ⊎ ((l : ℕ) × In l C × (place l < 64) × (place l ≡ j) × (bit (signature C).0 j ≡ 1))
     go false e = inl (bit_added low in_low bit_low C j ∙ ap (λ b. cond b 1 0) e)
     go true e = let (l, i, t) = any_some (in_low j) C e in inr (l, i, grind (arith, nat_tests), grind (arith, nat_tests), bit_added low in_low bit_low C j ∙ ap (λ b. cond b 1 0) e)
 
 high_some : (C : List ℕ) (j : ℕ) → (bit (signature C).1 j ≡ 0) ⊎ ((l : ℕ) × In l C × (64 ≤ place l) × (place l ≡ j + 64) × (bit (signature C).1 j ≡ 1))
-high_some C j = go (any_of (in_high j) C) refl
+high_some C j = go (list_any (in_high j) C) refl
   where
-    go : (b : Bool) → any_of (in_high j) C ≡ b → (bit (signature C).1 j ≡ 0) ⊎ ((l : ℕ) × In l C × (64 ≤ place l) × (place l ≡ j + 64) × (bit (signature C).1 j ≡ 1))
+    go : (b : Bool) → list_any (in_high j) C ≡ b → (bit (signature C).1 j ≡ 0) ⊎ ((l : ℕ) × In l C × (64 ≤ place l) × (place l ≡ j + 64) × (bit (signature C).1 j ≡ 1))
     go false e = inl (bit_added high in_high bit_high C j ∙ ap (λ b. cond b 1 0) e)
     go true e = let (l, i, t) = any_some (in_high j) C e in inr (l, i, grind (arith, nat_tests), grind (arith, nat_tests), bit_added high in_high bit_high C j ∙ ap (λ b. cond b 1 0) e)
 

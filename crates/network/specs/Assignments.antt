@@ -1,7 +1,8 @@
 -- Literals, and what clauses say of an assignment. Literal 2n says that node n is true, 2n + 1 that it is false.
 -- Assumes nothing.
 use Rattle.std.specs.Prelude.{◌≡◌, ℕ, ◌+◌, ◌-◌, ◌/◌, ◌%◌, ◌<◌, Bool, cond, not, List, ◌==◌}
-use Rattle.network.specs.Lists.{In, any_of, all_of}
+use Rattle.std.specs.List.{list_any}
+use Rattle.network.specs.Lists.{In, all_of}
 
 -- an assignment gives each node a value
 abbrev pub Assignment : Type 0
@@ -25,7 +26,7 @@ put σ n b k = cond (k == n) b (σ k)
 
 -- a clause holds if one of its literals is true
 abbrev pub holds : Assignment → List ℕ → Bool
-holds σ C = any_of (lit σ) C
+holds σ C = list_any (lit σ) C
 
 -- clauses are satisfied if each of them holds
 abbrev pub sat : Assignment → List (List ℕ) → Bool

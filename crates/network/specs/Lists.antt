@@ -6,11 +6,6 @@ abbrev pub In : {X : Type 0} → X → List X → Type 0
 In x [] = ⊥
 In x (y ∷ ys) = (x ≡ y) ⊎ In x ys
 
--- some element passes the test
-abbrev pub any_of : {X : Type 0} → (X → Bool) → List X → Bool
-any_of p [] = false
-any_of p (x ∷ xs) = p x || any_of p xs
-
 -- every element passes the test
 abbrev pub all_of : {X : Type 0} → (X → Bool) → List X → Bool
 all_of p [] = true

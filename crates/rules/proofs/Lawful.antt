@@ -1,8 +1,9 @@
 -- Every change of a store keeps its meaning lawful. Assumes nothing.
 use Rattle.std.proofs.Common.{◌≡◌, ℕ, zero, suc, ◌+◌, ◌-◌, ◌<◌, ◌≤◌, true, false, cond, not, ◌&&◌, ◌||◌, eqb, ltb, ◌⊎◌, List, [], ◌∷◌, ◌++◌, map, length, get_or, filter, sym, refl, ap, ◌∙◌, subst, inl, inr, ⊎_elim, arith}
+use Rattle.std.specs.List.{list_any}
 use Rattle.std.proofs.lemmas.Bool.{cases_eq, cases_lt, cases_Bool, cond_both, both_ways, and_parts, ltb-true, not-true}
 use Rattle.std.proofs.lemmas.Bool.Decides.{nat_tests}
-use Rattle.network.specs.Lists.{In, any_of, gather}
+use Rattle.network.specs.Lists.{In, gather}
 use Rattle.network.specs.Clauses.{has, last, front, without, well_formed}
 use Rattle.network.proofs.Lists.{in_cases, kept_in, map_in, any_none, gather_in, has_in}
 use Rattle.rules.specs.Store.{Ref, live, dead, Meaning, is_at, is_dead, from, literals, sum_of, how_many, live_clauses, kept_clauses, emptied, with_use, entered, moved_ref, removed, after_retired, referred, retired, shortened, places, index_on, index_off, present, enterable, droppable}
@@ -269,7 +270,7 @@ module _ (l i : ℕ) (M : Meaning) (L : Lawful M) (li : i < length (M.own l)) wh
   -- a literal that refers to the place, if the store has none
   unreferred : (x : ℕ) → referred M l i ≡ false → how_many (is_at l i) (M.uses x) ≡ 0
   unreferred x f = ⊎_elim
-      (λ b. count_none (is_at l i) (M.uses x) (λ r h e. both_ways (is_at l i r) (any_none (is_at l i) (M.uses x) (any_none (λ x. any_of (is_at l i) (M.uses x)) literals f x (in_up_to 2048 x b)) r h) e))
+      (λ b. count_none (is_at l i) (M.uses x) (λ r h e. both_ways (is_at l i r) (any_none (is_at l i) (M.uses x) (any_none (λ x. list_any (is_at l i) (M.uses x)) literals f x (in_up_to 2048 x b)) r h) e))
       (λ b. ap (how_many (is_at l i)) (L.bounded x b) ∙ unfold how_many in refl) (cases_lt x 2048)
 
   retired_mourned : (x : ℕ) → how_many is_dead ((retired l i M).uses x) ≤ cond (referred M l i) (suc M.dead_clauses) M.dead_clauses
@@ -303,9 +304,9 @@ module _ (l i : ℕ) (M : Meaning) (L : Lawful M) (li : i < length (M.own l)) wh
     unindexed = λ e. let (u, d) = L.unindexed (unfold retired in e) in ((λ x. none_retired x (u x)), unfold retired in (no_dead u d));
   }
     where
-      no_ref : ((x : ℕ) → M.uses x ≡ []) → (xs : List ℕ) → any_of (λ x. any_of (is_at l i) (M.uses x)) xs ≡ false
+      no_ref : ((x : ℕ) → M.uses x ≡ []) → (xs : List ℕ) → list_any (λ x. list_any (is_at l i) (M.uses x)) xs ≡ false
       no_ref u [] = refl
-      no_ref u (x ∷ xs) = ap (λ rs. any_of (is_at l i) rs || any_of (λ x. any_of (is_at l i) (M.uses x)) xs) (u x) ∙ no_ref u xs
+      no_ref u (x ∷ xs) = ap (λ rs. list_any (is_at l i) rs || list_any (λ x. list_any (is_at l i) (M.uses x)) xs) (u x) ∙ no_ref u xs
 
       no_dead : ((x : ℕ) → M.uses x ≡ []) → M.dead_clauses ≡ 0 → cond (referred M l i) (suc M.dead_clauses) M.dead_clauses ≡ 0
       no_dead u d = ap (λ b. cond b (suc M.dead_clauses) M.dead_clauses) (no_ref u literals) ∙ d

@@ -1,8 +1,9 @@
 -- The clauses that name a node are cleared. Assumes nothing.
 use Rattle.std.proofs.Common.{◌≡◌, ℕ, zero, suc, ◌+◌, ◌*◌, ◌<◌, Bool, true, false, ◌||◌, ◌⊎◌, List, [], ◌∷◌, map, length, get_or, sym, refl, ap, ◌∙◌, subst, inl, inr, ⊎_elim, arith}
+use Rattle.std.specs.List.{list_any}
 use Rattle.std.proofs.lemmas.Bool.{cases_eq, cases_Bool, both_ways, or_parts, or_from}
 use Rattle.network.specs.Assignments.{node}
-use Rattle.network.specs.Lists.{In, any_of}
+use Rattle.network.specs.Lists.{In}
 use Rattle.network.specs.Networks.{Free}
 use Rattle.network.proofs.Lists.{any_some, any_from}
 use Rattle.network.specs.Clauses.{last, front}
@@ -41,20 +42,20 @@ map_length f (suc m) i = ap suc (map_length f m (suc i))
 
 module _ (M : Meaning) (I : Indexed M) (v l : ℕ) where
   marked : ℕ → Bool
-  marked i = any_of (is_at l i) (M.uses (2 * v)) || any_of (is_at l i) (M.uses (2 * v + 1))
+  marked i = list_any (is_at l i) (M.uses (2 * v)) || list_any (is_at l i) (M.uses (2 * v + 1))
 
   marks_at : (j : ℕ) → j < length (M.own l) → get_or (use_marks M v l) j false ≡ marked j
   unfolding marked
-  marks_at j h = map_at (λ i. any_of (is_at l i) (M.uses (2 * v)) || any_of (is_at l i) (M.uses (2 * v + 1))) (length (M.own l)) 0 j h ∙ ap (λ i. any_of (is_at l i) (M.uses (2 * v)) || any_of (is_at l i) (M.uses (2 * v + 1))) (omega arith)
+  marks_at j h = map_at (λ i. list_any (is_at l i) (M.uses (2 * v)) || list_any (is_at l i) (M.uses (2 * v + 1))) (length (M.own l)) 0 j h ∙ ap (λ i. list_any (is_at l i) (M.uses (2 * v)) || list_any (is_at l i) (M.uses (2 * v + 1))) (omega arith)
 
-  ref_named : (x j : ℕ) → any_of (is_at l j) (M.uses x) ≡ true → In x (front (get_or (M.own l) j []))
+  ref_named : (x j : ℕ) → list_any (is_at l j) (M.uses x) ≡ true → In x (front (get_or (M.own l) j []))
   ref_named x j t = go (any_some (is_at l j) (M.uses x) t)
     where
       go : (r : Ref) × In r (M.uses x) × (is_at l j r ≡ true) → In x (front (get_or (M.own l) j []))
       go (dead, i, e) = absurd (I.no_dead x i)
       go (live a b, i, e) = let (p, q) = at_is l j a b e in subst (λ g. In x (front (get_or (M.own g) j []))) p (subst (λ g. In x (front (get_or (M.own a) g []))) q (I.named x a b i).1)
 
-  ref_every : (x j : ℕ) → j < length (M.own l) → In x (front (get_or (M.own l) j [])) → any_of (is_at l j) (M.uses x) ≡ true
+  ref_every : (x j : ℕ) → j < length (M.own l) → In x (front (get_or (M.own l) j [])) → list_any (is_at l j) (M.uses x) ≡ true
   ref_every x j lj h = any_from (is_at l j) (M.uses x) (live l j) (I.every x l j lj h) (is_here l j)
 
   -- clearing the uses of v from own l
@@ -64,12 +65,12 @@ module _ (M : Meaning) (I : Indexed M) (v l : ℕ) where
       let (j, lj, u, e) = (clear_is l (use_marks M v l) M (omega (arith, map_length marked (length (M.own l)) 0))).left E h in
       let (p, q) = parts j (sym (marks_at j lj) ∙ u) in (
         subst (λ C. In C (M.own l)) e (in_at (M.own l) j [] lj),
-        λ w. ⊎_elim (λ a. both_ways (any_of (is_at l j) (M.uses (2 * v))) p (ref_every (2 * v) j lj (subst (λ C. In (2 * v) (front C)) (sym e) a)))
-            (λ a. both_ways (any_of (is_at l j) (M.uses (2 * v + 1))) q (ref_every (2 * v + 1) j lj (subst (λ C. In (2 * v + 1) (front C)) (sym e) a))) w,
+        λ w. ⊎_elim (λ a. both_ways (list_any (is_at l j) (M.uses (2 * v))) p (ref_every (2 * v) j lj (subst (λ C. In (2 * v) (front C)) (sym e) a)))
+            (λ a. both_ways (list_any (is_at l j) (M.uses (2 * v + 1))) q (ref_every (2 * v + 1) j lj (subst (λ C. In (2 * v + 1) (front C)) (sym e) a))) w,
       )
     where
-      parts : (j : ℕ) → marked j ≡ false → (any_of (is_at l j) (M.uses (2 * v)) ≡ false) × (any_of (is_at l j) (M.uses (2 * v + 1)) ≡ false)
-      parts j f = or_parts (any_of (is_at l j) (M.uses (2 * v))) (any_of (is_at l j) (M.uses (2 * v + 1))) f
+      parts : (j : ℕ) → marked j ≡ false → (list_any (is_at l j) (M.uses (2 * v)) ≡ false) × (list_any (is_at l j) (M.uses (2 * v + 1)) ≡ false)
+      parts j f = or_parts (list_any (is_at l j) (M.uses (2 * v))) (list_any (is_at l j) (M.uses (2 * v + 1))) f
 
   step_stays : (E : List ℕ) → In E (M.own l) → (Uses v E → ⊥) → In E ((clear l (use_marks M v l) M).own l)
   unfolding marked
@@ -77,11 +78,11 @@ module _ (M : Meaning) (I : Indexed M) (v l : ℕ) where
       let (j, lj, e) = at_in (M.own l) E [] h in
       (clear_is l (use_marks M v l) M (omega (arith, map_length marked (length (M.own l)) 0))).stays E (j, lj, marks_at j lj ∙ not_marked j e, e)
     where
-      not_ref : (x j : ℕ) → get_or (M.own l) j [] ≡ E → (In x (front E) → ⊥) → any_of (is_at l j) (M.uses x) ≡ false
-      not_ref x j e a = ⊎_elim (λ t. absurd (a (subst (λ C. In x (front C)) e (ref_named x j t)))) (λ f. f) (cases_Bool (any_of (is_at l j) (M.uses x)))
+      not_ref : (x j : ℕ) → get_or (M.own l) j [] ≡ E → (In x (front E) → ⊥) → list_any (is_at l j) (M.uses x) ≡ false
+      not_ref x j e a = ⊎_elim (λ t. absurd (a (subst (λ C. In x (front C)) e (ref_named x j t)))) (λ f. f) (cases_Bool (list_any (is_at l j) (M.uses x)))
 
       not_marked : (j : ℕ) → get_or (M.own l) j [] ≡ E → marked j ≡ false
-      not_marked j e = or_from (any_of (is_at l j) (M.uses (2 * v))) (any_of (is_at l j) (M.uses (2 * v + 1))) (not_ref (2 * v) j e (λ a. w (inl a))) (not_ref (2 * v + 1) j e (λ a. w (inr a)))
+      not_marked j e = or_from (list_any (is_at l j) (M.uses (2 * v))) (list_any (is_at l j) (M.uses (2 * v + 1))) (not_ref (2 * v) j e (λ a. w (inl a))) (not_ref (2 * v + 1) j e (λ a. w (inr a)))
 
   step_cleared : Cleared l (use_marks M v l) M (clear l (use_marks M v l) M)
   unfolding marked

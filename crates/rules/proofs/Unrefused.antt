@@ -1,10 +1,11 @@
 -- No entry of start, const_simplify or bve_simplify is refused, so each is what it is without the tests. Assumes nothing.
 use Rattle.std.proofs.Common.{◌≡◌, ℕ, zero, suc, ◌+◌, ◌*◌, ◌/◌, ◌<◌, ◌≤◌, Bool, true, false, cond, not, ltb, List, [], ◌∷◌, map, length, Some, None, Option, sym, refl, ap, ◌∙◌, subst, ⊎_elim, arith}
+use Rattle.std.specs.List.{list_any}
 use Rattle.std.proofs.lemmas.Bool.{cond_both, or_parts, and_parts, not-true, ltb-false}
 use Rattle.network.specs.Assignments.{Assignment, node}
 use Rattle.network.specs.Networks.{Network}
 use Rattle.network.specs.Clauses.{has, last, Ordered}
-use Rattle.network.specs.Lists.{In, any_of}
+use Rattle.network.specs.Lists.{In}
 use Rattle.network.specs.Values.{simplified}
 use Rattle.network.specs.Lemmas.{lemmas}
 use Rattle.network.proofs.Lists.{in_cases, any_none, gather_in}
@@ -245,7 +246,7 @@ module _ (first : Network) (W : Work) (G : Good first W) (L : Lawful W.store) (h
 pub kept_few : (W : Work) (v : ℕ) → given_up W v (all_resolvents W.store v) ≡ false
     → ((R : List ℕ) → In R (all_resolvents W.store v) → length R ≤ 32) × (length (all_resolvents W.store v) ≤ cost W.store v)
 kept_few W v f =
-    let (a, b) = or_parts (any_of (λ R. ltb 32 (length R)) (all_resolvents W.store v)) (ltb (cost W.store v) (length (all_resolvents W.store v))) f in
+    let (a, b) = or_parts (list_any (λ R. ltb 32 (length R)) (all_resolvents W.store v)) (ltb (cost W.store v) (length (all_resolvents W.store v))) f in
     ((λ R i. ltb-false 32 (length R) (any_none (λ R. ltb 32 (length R)) (all_resolvents W.store v) a R i)), ltb-false (cost W.store v) (length (all_resolvents W.store v)) b)
 
 module _ (first : Network) where

@@ -1,7 +1,8 @@
 -- What a store of clauses means, and what each change makes of that.
 -- Assumes nothing.
 use Rattle.std.specs.Prelude.{ℕ, zero, suc, ◌+◌, ◌-◌, Bool, true, false, cond, not, ◌&&◌, List, [], ◌∷◌, ◌++◌, map, length, take, drop, filter, ◌==◌, nat_lt, slice_index_or, slice_set}
-use Rattle.network.specs.Lists.{any_of, gather}
+use Rattle.std.specs.List.{list_any}
+use Rattle.network.specs.Lists.{gather}
 use Rattle.network.specs.Clauses.{without, has, last, front, well_formed}
 
 -- what a list of uses refers to: place i of the clauses whose last literal is l, or a clause that is there no more
@@ -120,7 +121,7 @@ after_retired l i (live k j) = cond (k == l) (cond (j == i) dead (cond (nat_lt i
 
 -- some list of uses has place i of own l
 abbrev pub referred : Meaning → ℕ → ℕ → Bool
-referred M l i = any_of (λ x. any_of (is_at l i) (M.uses x)) literals
+referred M l i = list_any (λ x. list_any (is_at l i) (M.uses x)) literals
 
 -- place i of own l goes, order kept; lists of uses that have it keep it as dead
 unfoldable pub retired : ℕ → ℕ → Meaning → Meaning

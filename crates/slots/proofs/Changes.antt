@@ -1,13 +1,13 @@
 -- Retiring, shortening and the index, by slots and by the meaning. Assumes nothing.
 use Rattle.std.proofs.Common.{◌≡◌, ℕ, zero, suc, ◌+◌, ◌-◌, ◌<◌, Bool, true, false, cond, eqb, List, [], ◌∷◌, map, length, get_or, set, filter, sym, refl, ap, ◌∙◌, subst, inl, inr, arith}
 use mathlib.Core.Path.{fun_ext}
-use Rattle.std.specs.List.{AllByRecursion}
+use Rattle.std.specs.List.{AllByRecursion, list_any}
 use Rattle.std.proofs.lemmas.Bool.{cases_eq, cases_lt, cases_Bool, cond-true, cond-false, eq-eqb, ne_eqb, lt-ltb, le-ltb}
 use Rattle.std.proofs.lemmas.List.{map-append, get_or-map}
 use Rattle.std.proofs.ByRecursion.{All-get_or}
 use Rattle.rings.specs.Rings.{Lacks, Differ, without, drop_at, at}
 use Rattle.rings.proofs.Drops.{at_here, at_else, drop_at_all, drop_at_differ, drop_at_length, drop_at_low, drop_at_high, drop_at_out, drop_at_map}
-use Rattle.network.specs.Lists.{any_of, gather}
+use Rattle.network.specs.Lists.{gather}
 use Rattle.network.specs.Clauses.{last, front, has}
 use Rattle.rules.specs.Store.{live, dead, retired, shortened, index_on, close_up, after_retired, is_at, places, literals}
 use Rattle.slots.specs.Slots.{seek, ref, meant, Kept, filled_by_last}
@@ -36,7 +36,7 @@ fallen_high l i j h =
 
 module _ (own text : ℕ → List ℕ) (k : Kept own text) (l i : ℕ) (h : i < length (own l)) where
   -- a ref to the place is a ref to the slot there
-  at_is : (ys : List ℕ) → any_of (is_at l i) (map (ref own text) ys) ≡ has (get_or (own l) i 0) ys
+  at_is : (ys : List ℕ) → list_any (is_at l i) (map (ref own text) ys) ≡ has (get_or (own l) i 0) ys
   at_is [] = refl
   at_is (y ∷ ys) =
       let ih = at_is ys in
@@ -46,8 +46,8 @@ module _ (own text : ℕ → List ℕ) (k : Kept own text) (l i : ℕ) (h : i < 
       ] in
       cc
 
-  any_same : (f g : ℕ → Bool) (ls : List ℕ) → ((x : ℕ) → f x ≡ g x) → any_of f ls ≡ any_of g ls
-  any_same f g ls e = ap (λ (p : ℕ → Bool). any_of p ls) (fun_ext e)
+  any_same : (f g : ℕ → Bool) (ls : List ℕ) → ((x : ℕ) → f x ≡ g x) → list_any f ls ≡ list_any g ls
+  any_same f g ls e = ap (λ (p : ℕ → Bool). list_any p ls) (fun_ext e)
 
   module _ (own' : ℕ → List ℕ) (owns : (m : ℕ) → own' m ≡ at own l (drop_at i (own l)) m) where
     pub retired_ref : (y : ℕ) → ref own' text y ≡ after_retired l i (ref own text y)
@@ -85,7 +85,7 @@ module _ (own text : ℕ → List ℕ) (k : Kept own text) (l i : ℕ) (h : i < 
     retired_refs [] = refl
     retired_refs (y ∷ ys) = let a = retired_ref y in let b = retired_refs ys in cc
 
-    pub retired_is : (room : ℕ) (ix : Bool) (used : ℕ → List ℕ) (lost lost' : ℕ) → lost' ≡ cond (any_of (λ m. has (get_or (own l) i 0) (used m)) literals) (suc lost) lost → meant room ix own' used text lost' ≡ retired l i (meant room ix own used text lost)
+    pub retired_is : (room : ℕ) (ix : Bool) (used : ℕ → List ℕ) (lost lost' : ℕ) → lost' ≡ cond (list_any (λ m. has (get_or (own l) i 0) (used m)) literals) (suc lost) lost → meant room ix own' used text lost' ≡ retired l i (meant room ix own used text lost)
     unfolding retired
     retired_is room ix used lost lost' e =
         same_meaning room ix _ _ _ _ lost' _
@@ -95,7 +95,7 @@ module _ (own text : ℕ → List ℕ) (k : Kept own text) (l i : ℕ) (h : i < 
           | inr n ↦ ap (map text) (owns m ∙ at_else own l (drop_at i (own l)) m n) ∙ sym (changed_else (λ (w : ℕ). map text (own w)) l (close_up i (map text (own l))) m n)
         ])
         (λ m. retired_refs (used m))
-        (e ∙ ap (λ (b : Bool). cond b (suc lost) lost) (any_same (λ m. has (get_or (own l) i 0) (used m)) (λ m. any_of (is_at l i) (map (ref own text) (used m))) literals (λ m. sym (at_is (used m)))))
+        (e ∙ ap (λ (b : Bool). cond b (suc lost) lost) (any_same (λ m. has (get_or (own l) i 0) (used m)) (λ m. list_any (is_at l i) (map (ref own text) (used m))) literals (λ m. sym (at_is (used m)))))
 
   -- ---- a shorter clause in the same slot
   module _ (text' : ℕ → List ℕ) (v : ℕ) (short : text' (get_or (own l) i 0) ≡ without v (text (get_or (own l) i 0))) (ends : last (text' (get_or (own l) i 0)) ≡ l) where
