@@ -1,9 +1,9 @@
 -- Membership, and tests over a list. Assumes nothing.
 use Rattle.std.proofs.Common.{◌≡◌, ℕ, Bool, true, false, ◌&&◌, ◌||◌, eqb, ◌⊎◌, List, [], ◌∷◌, ◌++◌, map, Some, None, filter, Option, sym, refl, ap, subst, inl, inr, ⊎_elim, arith}
-use Rattle.std.specs.List.{list_any}
+use Rattle.std.specs.List.{list_any, list_all}
 use Rattle.std.proofs.lemmas.Bool.{eqb-true}
 use Rattle.network.specs.Clauses.{has}
-use Rattle.network.specs.Lists.{In, all_of, gather, listed}
+use Rattle.network.specs.Lists.{In, gather, listed}
 
 module _ {X : Type 0} where
   pub in_left : (x : X) (xs ys : List X) → In x xs → In x (xs ++ ys)
@@ -46,15 +46,15 @@ module _ {X : Type 0} where
   any_none p [] e x i = absurd i
   any_none p (y ∷ xs) e x i = grind (arith, any_none p xs)
 
-  pub all_at : (p : X → Bool) (xs : List X) → all_of p xs ≡ true → (x : X) → In x xs → p x ≡ true
+  pub all_at : (p : X → Bool) (xs : List X) → list_all p xs ≡ true → (x : X) → In x xs → p x ≡ true
   all_at p [] e x i = absurd i
   all_at p (y ∷ xs) e x i = grind (arith, all_at p xs)
 
-  pub all_from : (p : X → Bool) (xs : List X) → ((x : X) → In x xs → p x ≡ true) → all_of p xs ≡ true
+  pub all_from : (p : X → Bool) (xs : List X) → ((x : X) → In x xs → p x ≡ true) → list_all p xs ≡ true
   all_from p [] h = refl
   all_from p (y ∷ xs) h = grind (arith, h y (inl refl), all_from p xs (λ x i. h x (inr i)))
 
-  pub all_not : (p : X → Bool) (xs : List X) → all_of p xs ≡ false → (x : X) × In x xs × (p x ≡ false)
+  pub all_not : (p : X → Bool) (xs : List X) → list_all p xs ≡ false → (x : X) × In x xs × (p x ≡ false)
   all_not p [] e = grind arith
   all_not p (y ∷ xs) e = grind (arith, all_not p xs)
 
@@ -66,15 +66,15 @@ module _ {X : Type 0} where
   any_append p [] ys = refl
   any_append p (x ∷ xs) ys = grind (arith, any_append p xs ys)
 
-  pub all_append : (p : X → Bool) (xs ys : List X) → all_of p (xs ++ ys) ≡ (all_of p xs && all_of p ys)
+  pub all_append : (p : X → Bool) (xs ys : List X) → list_all p (xs ++ ys) ≡ (list_all p xs && list_all p ys)
   all_append p [] ys = refl
   all_append p (x ∷ xs) ys = grind (arith, all_append p xs ys)
 
-  pub all_kept : (p q : X → Bool) (xs : List X) → all_of p xs ≡ true → all_of p (filter q xs) ≡ true
+  pub all_kept : (p q : X → Bool) (xs : List X) → list_all p xs ≡ true → list_all p (filter q xs) ≡ true
   all_kept p q [] h = refl
   all_kept p q (x ∷ xs) h = grind (arith, all_kept p q xs)
 
-  pub all_map : {Y : Type 0} (f : Y → X) (p : X → Bool) (ys : List Y) → all_of p (map f ys) ≡ all_of (λ y. p (f y)) ys
+  pub all_map : {Y : Type 0} (f : Y → X) (p : X → Bool) (ys : List Y) → list_all p (map f ys) ≡ list_all (λ y. p (f y)) ys
   all_map f p [] = refl
   all_map f p (y ∷ ys) = rw (all_map f p ys)
 

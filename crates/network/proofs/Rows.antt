@@ -1,10 +1,11 @@
 -- From rows to assignments. Assumes nothing.
 use Rattle.std.proofs.Common.{◌≡◌, ℕ, zero, suc, ◌+◌, ◌*◌, ◌/◌, ◌%◌, ◌^◌, ◌<◌, ◌≤◌, Bool, true, false, cond, not, ◌&&◌, ◌||◌, eqb, ◌⊎◌, ◌↔◌, List, [], ◌∷◌, ◌++◌, length, sym, refl, ap, ◌∙◌, subst, inl, inr, ⊎_elim, add-one, arith}
+use Rattle.std.specs.List.{list_all}
 use Rattle.std.proofs.lemmas.Bool.{both_ways, and_parts, and_from, cond-true, cond-false, cond_both, eq-eqb, eqb-true, eqb-false, cases_Bool}
 use Rattle.std.proofs.lemmas.Bool.Decides.{nat_tests}
 use Rattle.network.specs.Clauses.{has}
 use Rattle.network.specs.Assignments.{Assignment, node, put, holds, sat, AgreeOn}
-use Rattle.network.specs.Lists.{In, all_of}
+use Rattle.network.specs.Lists.{In}
 use Rattle.network.proofs.Lists.{has_in, in_left, in_right, in_cases, any_from}
 use Rattle.network.proofs.Holding.{holds_agree}
 use Rattle.network.specs.Rows.{noted, noted_in, noted_all, lower, row, allows, no_value, two_values, some_row, clashes, is_loose, Narrow, Valued, Tight, Clash, Loose}
@@ -101,7 +102,7 @@ row_like n xs σ b k z h = cond_both (eqb k n) b (row xs (code xs σ) k) (λ (x 
     same (inr (inl e)) o = absurd (o e)
     same (inr (inr i)) o = row_code xs σ k i
 
-all_same : {X : Type 0} (p q : X → Bool) (xs : List X) → ((x : X) → In x xs → p x ≡ q x) → all_of p xs ≡ all_of q xs
+all_same : {X : Type 0} (p q : X → Bool) (xs : List X) → ((x : X) → In x xs → p x ≡ q x) → list_all p xs ≡ list_all q xs
 all_same p q [] h = refl
 all_same p q (y ∷ xs) h = grind (arith, h y (inl refl), all_same p q xs (λ x i. h x (inr i)))
 

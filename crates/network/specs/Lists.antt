@@ -6,11 +6,6 @@ abbrev pub In : {X : Type 0} → X → List X → Type 0
 In x [] = ⊥
 In x (y ∷ ys) = (x ≡ y) ⊎ In x ys
 
--- every element passes the test
-abbrev pub all_of : {X : Type 0} → (X → Bool) → List X → Bool
-all_of p [] = true
-all_of p (x ∷ xs) = p x && all_of p xs
-
 -- the lists that f makes of the elements, one after another
 unfoldable pub gather : {X Y : Type 0} → (X → List Y) → List X → List Y
 gather f [] = []
