@@ -1,9 +1,9 @@
 -- Membership, and tests over a list. Assumes nothing.
-use Rattle.std.proofs.Common.{◌≡◌, ℕ, Bool, true, false, ◌&&◌, ◌||◌, eqb, ◌⊎◌, List, [], ◌∷◌, ◌++◌, map, Some, None, filter, Option, sym, refl, ap, subst, inl, inr, ⊎_elim, arith}
+use Rattle.std.proofs.Common.{◌≡◌, ℕ, Bool, true, false, ◌&&◌, ◌||◌, eqb, ◌⊎◌, List, [], ◌∷◌, ◌++◌, map, Some, None, filter, Option, sym, refl, ap, subst, inl, inr, ⊎_elim, arith, flat_map}
 use Rattle.std.specs.List.{list_any, list_all}
 use Rattle.std.proofs.lemmas.Bool.{eqb-true}
 use Rattle.network.specs.Clauses.{has}
-use Rattle.network.specs.Lists.{In, gather, listed}
+use Rattle.network.specs.Lists.{In, listed}
 
 module _ {X : Type 0} where
   pub in_left : (x : X) (xs ys : List X) → In x xs → In x (xs ++ ys)
@@ -79,16 +79,14 @@ module _ {X : Type 0} where
   all_map f p (y ∷ ys) = rw (all_map f p ys)
 
 module _ {X Y : Type 0} (f : X → List Y) where
-  pub in_gather : (xs : List X) (x : X) (y : Y) → In x xs → In y (f x) → In y (gather f xs)
-  unfolding gather
-  in_gather [] x y i j = absurd i
-  in_gather (z ∷ xs) x y (inl e) j = in_left y (f z) (gather f xs) (subst (λ u. In y (f u)) e j)
-  in_gather (z ∷ xs) x y (inr i) j = in_right y (f z) (gather f xs) (in_gather xs x y i j)
+  pub in_flat_map : (xs : List X) (x : X) (y : Y) → In x xs → In y (f x) → In y (flat_map f xs)
+  in_flat_map [] x y i j = absurd i
+  in_flat_map (z ∷ xs) x y (inl e) j = in_left y (f z) (flat_map f xs) (subst (λ u. In y (f u)) e j)
+  in_flat_map (z ∷ xs) x y (inr i) j = in_right y (f z) (flat_map f xs) (in_flat_map xs x y i j)
 
-  pub gather_in : (xs : List X) (y : Y) → In y (gather f xs) → (x : X) × In x xs × In y (f x)
-  unfolding gather
-  gather_in [] y i = absurd i
-  gather_in (z ∷ xs) y i = ⊎_elim (λ j. (z, inl refl, j)) (λ j. let k = gather_in xs y j in (k.0, inr k.1, k.2)) (in_cases y (f z) (gather f xs) i)
+  pub flat_map_in : (xs : List X) (y : Y) → In y (flat_map f xs) → (x : X) × In x xs × In y (f x)
+  flat_map_in [] y i = absurd i
+  flat_map_in (z ∷ xs) y i = ⊎_elim (λ j. (z, inl refl, j)) (λ j. let k = flat_map_in xs y j in (k.0, inr k.1, k.2)) (in_cases y (f z) (flat_map f xs) i)
 
 pub in_listed : {X : Type 0} (o : Option X) (x : X) → o ≡ Some x → In x (listed o)
 in_listed o x e = rw e (inl refl)

@@ -6,11 +6,6 @@ abbrev pub In : {X : Type 0} → X → List X → Type 0
 In x [] = ⊥
 In x (y ∷ ys) = (x ≡ y) ⊎ In x ys
 
--- the lists that f makes of the elements, one after another
-unfoldable pub gather : {X Y : Type 0} → (X → List Y) → List X → List Y
-gather f [] = []
-gather f (x ∷ xs) = f x ++ gather f xs
-
 -- the list of what is there
 abbrev pub listed : {X : Type 0} → Option X → List X
 listed None = []

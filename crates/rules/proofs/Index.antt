@@ -1,10 +1,10 @@
 -- Changes of a store keep its index. Assumes nothing.
-use Rattle.std.proofs.Common.{◌≡◌, ℕ, zero, suc, ◌+◌, ◌-◌, ◌<◌, ◌≤◌, true, false, cond, not, ◌&&◌, eqb, ◌⊎◌, List, [], ◌∷◌, ◌++◌, map, length, get_or, take, set, filter, sym, refl, ap, ◌∙◌, subst, inl, inr, ⊎_elim, arith}
+use Rattle.std.proofs.Common.{◌≡◌, ℕ, zero, suc, ◌+◌, ◌-◌, ◌<◌, ◌≤◌, true, false, cond, not, ◌&&◌, eqb, ◌⊎◌, List, [], ◌∷◌, ◌++◌, map, length, get_or, take, set, filter, sym, refl, ap, ◌∙◌, subst, inl, inr, ⊎_elim, arith, flat_map}
 use Rattle.std.proofs.lemmas.Bool.{cases_eq, cases_lt, cases_Bool, cond_both, cond-true, cond-false, not-true, not_from_false, eq-eqb}
 use Rattle.std.proofs.lemmas.Bool.Decides.{nat_tests}
-use Rattle.network.specs.Lists.{In, gather}
+use Rattle.network.specs.Lists.{In}
 use Rattle.network.specs.Clauses.{has, last, front}
-use Rattle.network.proofs.Lists.{in_left, in_right, in_cases, in_kept, kept_in, in_map, map_in, any_from, in_gather, gather_in, has_in}
+use Rattle.network.proofs.Lists.{in_left, in_right, in_cases, in_kept, kept_in, in_map, map_in, any_from, in_flat_map, flat_map_in, has_in}
 use Rattle.rules.specs.Store.{Ref, live, dead, Meaning, is_at, from, up_to, literals, swap_out, with_use, entered, moved_ref, removed, with_first, places, index_on}
 use Rattle.rules.specs.Index.{Indexed}
 use Rattle.rules.proofs.Places.{in_at, changed_here, changed_apart, set_length, set_at, set_other}
@@ -285,13 +285,13 @@ pub index_on_indexed : (M : Meaning) → M.indexed ≡ false → ((l : ℕ) (C :
 unfolding index_on
 index_on_indexed M off small = subst (λ b. Indexed (cond b M made)) (sym off) (record {
   on = refl;
-  named = λ x k j h. let (l, i, p) = gather_in (λ l. places x l 0 (M.own l)) literals (live k j) h in
+  named = λ x k j h. let (l, i, p) = flat_map_in (λ l. places x l 0 (M.own l)) literals (live k j) h in
       let (a, b, c, d) = places_named x l (M.own l) 0 k j p in
       subst (λ g. (j < length (M.own g)) × In x (front (get_or (M.own g) j []))) (sym a) (omega arith, subst (λ t. In x (front (get_or (M.own l) t []))) (omega arith) d);
-  every = λ x l i li h. in_gather (λ l. places x l 0 (M.own l)) literals l (live l i)
+  every = λ x l i li h. in_flat_map (λ l. places x l 0 (M.own l)) literals l (live l i)
       (in_up_to 2048 l (small l (get_or (M.own l) i []) (in_at (M.own l) i [] li))) (subst (λ t. In (live l t) (places x l 0 (M.own l))) (omega arith) (places_every x l (M.own l) 0 i li h));
-  no_dead = λ x h. let (l, i, p) = gather_in (λ l. places x l 0 (M.own l)) literals dead h in places_live x l (M.own l) 0 p;
+  no_dead = λ x h. let (l, i, p) = flat_map_in (λ l. places x l 0 (M.own l)) literals dead h in places_live x l (M.own l) 0 p;
 })
   where
     made : Meaning
-    made = record { room = M.room; indexed = true; own = M.own; uses = λ x. gather (λ l. places x l 0 (M.own l)) literals; dead_clauses = 0 }
+    made = record { room = M.room; indexed = true; own = M.own; uses = λ x. flat_map (λ l. places x l 0 (M.own l)) literals; dead_clauses = 0 }

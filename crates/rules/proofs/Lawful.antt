@@ -1,11 +1,11 @@
 -- Every change of a store keeps its meaning lawful. Assumes nothing.
-use Rattle.std.proofs.Common.{◌≡◌, ℕ, zero, suc, ◌+◌, ◌-◌, ◌<◌, ◌≤◌, true, false, cond, not, ◌&&◌, ◌||◌, eqb, ltb, ◌⊎◌, List, [], ◌∷◌, ◌++◌, map, length, get_or, filter, sym, refl, ap, ◌∙◌, subst, inl, inr, ⊎_elim, arith}
+use Rattle.std.proofs.Common.{◌≡◌, ℕ, zero, suc, ◌+◌, ◌-◌, ◌<◌, ◌≤◌, true, false, cond, not, ◌&&◌, ◌||◌, eqb, ltb, ◌⊎◌, List, [], ◌∷◌, ◌++◌, map, length, get_or, filter, sym, refl, ap, ◌∙◌, subst, inl, inr, ⊎_elim, arith, flat_map}
 use Rattle.std.specs.List.{list_any}
 use Rattle.std.proofs.lemmas.Bool.{cases_eq, cases_lt, cases_Bool, cond_both, both_ways, and_parts, ltb-true, not-true}
 use Rattle.std.proofs.lemmas.Bool.Decides.{nat_tests}
-use Rattle.network.specs.Lists.{In, gather}
+use Rattle.network.specs.Lists.{In}
 use Rattle.network.specs.Clauses.{has, last, front, without, well_formed}
-use Rattle.network.proofs.Lists.{in_cases, kept_in, map_in, any_none, gather_in, has_in}
+use Rattle.network.proofs.Lists.{in_cases, kept_in, map_in, any_none, flat_map_in, has_in}
 use Rattle.rules.specs.Store.{Ref, live, dead, Meaning, is_at, is_dead, from, literals, sum_of, how_many, live_clauses, kept_clauses, emptied, with_use, entered, moved_ref, removed, after_retired, referred, retired, shortened, places, index_on, index_off, present, enterable, droppable}
 use Rattle.rules.specs.Lawful.{Lawful}
 use Rattle.rules.proofs.Places.{in_at, closed_in, closed_length, set_in, retired_own, retired_apart, shortened_own, shortened_apart, shortened_length}
@@ -350,26 +350,26 @@ module _ (l i x : ℕ) (M : Meaning) (L : Lawful M) (ok : droppable M l i x ≡ 
 
 module _ (M : Meaning) (L : Lawful M) where
   indexed_now : Meaning
-  indexed_now = record { room = M.room; indexed = true; own = M.own; uses = λ x. gather (λ l. places x l 0 (M.own l)) literals; dead_clauses = 0 }
+  indexed_now = record { room = M.room; indexed = true; own = M.own; uses = λ x. flat_map (λ l. places x l 0 (M.own l)) literals; dead_clauses = 0 }
 
   index_is : M.indexed ≡ false → index_on M ≡ indexed_now
   unfolding index_on indexed_now
-  index_is off = ap (λ b. cond b M (record { room = M.room; indexed = true; own = M.own; uses = λ x. gather (λ l. places x l 0 (M.own l)) literals; dead_clauses = 0 })) off
+  index_is off = ap (λ b. cond b M (record { room = M.room; indexed = true; own = M.own; uses = λ x. flat_map (λ l. places x l 0 (M.own l)) literals; dead_clauses = 0 })) off
 
   index_stays : M.indexed ≡ true → index_on M ≡ M
   unfolding index_on
-  index_stays on = ap (λ b. cond b M (record { room = M.room; indexed = true; own = M.own; uses = λ x. gather (λ l. places x l 0 (M.own l)) literals; dead_clauses = 0 })) on
+  index_stays on = ap (λ b. cond b M (record { room = M.room; indexed = true; own = M.own; uses = λ x. flat_map (λ l. places x l 0 (M.own l)) literals; dead_clauses = 0 })) on
 
-  use_named : (x l i : ℕ) → In (live l i) (gather (λ l. places x l 0 (M.own l)) literals) → (i < length (M.own l)) × In x (front (get_or (M.own l) i []))
+  use_named : (x l i : ℕ) → In (live l i) (flat_map (λ l. places x l 0 (M.own l)) literals) → (i < length (M.own l)) × In x (front (get_or (M.own l) i []))
   use_named x l i h =
-      let (k, a, p) = gather_in (λ l. places x l 0 (M.own l)) literals (live l i) h in
+      let (k, a, p) = flat_map_in (λ l. places x l 0 (M.own l)) literals (live l i) h in
       let (e, b, c, d) = places_named x k (M.own k) 0 l i p in
       subst (λ g. (i < length (M.own g)) × In x (front (get_or (M.own g) i []))) (sym e) (omega arith, subst (λ t. In x (front (get_or (M.own k) t []))) (omega arith) d)
 
-  no_dead_use : (x : ℕ) → In dead (gather (λ l. places x l 0 (M.own l)) literals) → ⊥
-  no_dead_use x h = let (l, a, p) = gather_in (λ l. places x l 0 (M.own l)) literals dead h in places_live x l (M.own l) 0 p
+  no_dead_use : (x : ℕ) → In dead (flat_map (λ l. places x l 0 (M.own l)) literals) → ⊥
+  no_dead_use x h = let (l, a, p) = flat_map_in (λ l. places x l 0 (M.own l)) literals dead h in places_live x l (M.own l) 0 p
 
-  no_far_use : (x : ℕ) → 2048 ≤ x → (r : Ref) → In r (gather (λ l. places x l 0 (M.own l)) literals) → ⊥
+  no_far_use : (x : ℕ) → 2048 ≤ x → (r : Ref) → In r (flat_map (λ l. places x l 0 (M.own l)) literals) → ⊥
   no_far_use x b dead h = no_dead_use x h
   no_far_use x b (live l i) h =
       let (li, f) = use_named x l i h in
@@ -388,10 +388,10 @@ module _ (M : Meaning) (L : Lawful M) where
   indexed_lawful off = record {
     formed = L.formed;
     placed = L.placed;
-    bounded = λ x b. nil_is (gather (λ l. places x l 0 (M.own l)) literals) (no_far_use x b);
+    bounded = λ x b. nil_is (flat_map (λ l. places x l 0 (M.own l)) literals) (no_far_use x b);
     named = λ x l i h. (use_named x l i h).0;
     once = subst (λ N. (x l i : ℕ) → how_many (is_at l i) (N.uses x) ≤ 1) (index_is off) (index_once M off);
-    mourned = λ x. omega (arith, count_none is_dead (gather (λ l. places x l 0 (M.own l)) literals) (λ r h e. no_dead_use x (subst (λ s. In s (gather (λ l. places x l 0 (M.own l)) literals)) (is_dead_of r e) h)));
+    mourned = λ x. omega (arith, count_none is_dead (flat_map (λ l. places x l 0 (M.own l)) literals) (λ r h e. no_dead_use x (subst (λ s. In s (flat_map (λ l. places x l 0 (M.own l)) literals)) (is_dead_of r e) h)));
     within = indexed_within;
     unindexed = λ e. absurd (both_ways true e refl);
   }

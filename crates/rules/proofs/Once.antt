@@ -1,7 +1,7 @@
 -- No list of uses has a place twice. Assumes nothing.
-use Rattle.std.proofs.Common.{◌≡◌, ℕ, zero, suc, ◌-◌, ◌<◌, ◌≤◌, true, false, cond, not, ◌⊎◌, List, [], ◌∷◌, length, filter, sym, refl, ap, ◌∙◌, subst, inl, inr, ⊎_elim, arith}
+use Rattle.std.proofs.Common.{◌≡◌, ℕ, zero, suc, ◌-◌, ◌<◌, ◌≤◌, true, false, cond, not, ◌⊎◌, List, [], ◌∷◌, length, filter, sym, refl, ap, ◌∙◌, subst, inl, inr, ⊎_elim, arith, flat_map}
 use Rattle.std.proofs.lemmas.Bool.{cases_eq, cases_Bool, cond_both, both_ways, not-true}
-use Rattle.network.specs.Lists.{In, gather}
+use Rattle.network.specs.Lists.{In}
 use Rattle.network.specs.Clauses.{has, front}
 use Rattle.network.proofs.Lists.{kept_in}
 use Rattle.rules.specs.Store.{Ref, live, dead, Meaning, is_at, from, literals, how_many, moved_ref, removed, places, index_on}
@@ -71,18 +71,18 @@ module _ (M : Meaning) (x : ℕ) where
   every : ℕ → List Ref
   every l = places x l 0 (M.own l)
 
-  gather_low : (m i k j : ℕ) → k < i → how_many (is_at k j) (gather every (from i m)) ≡ 0
-  unfolding gather how_many every
+  gather_low : (m i k j : ℕ) → k < i → how_many (is_at k j) (flat_map every (from i m)) ≡ 0
+  unfolding how_many every
   gather_low zero i k j l = refl
-  gather_low (suc m) i k j l = omega (arith, count_append (is_at k j) (every i) (gather every (from (suc i) m)), places_low x i (M.own i) 0 k j (inl (λ e. omega arith)), gather_low m (suc i) k j (omega arith))
+  gather_low (suc m) i k j l = omega (arith, count_append (is_at k j) (every i) (flat_map every (from (suc i) m)), places_low x i (M.own i) 0 k j (inl (λ e. omega arith)), gather_low m (suc i) k j (omega arith))
 
-  gather_once : (m i k j : ℕ) → how_many (is_at k j) (gather every (from i m)) ≤ 1
-  unfolding gather how_many every
+  gather_once : (m i k j : ℕ) → how_many (is_at k j) (flat_map every (from i m)) ≤ 1
+  unfolding how_many every
   gather_once zero i k j = omega arith
   gather_once (suc m) i k j = ⊎_elim
-      (λ e. omega (arith, count_append (is_at k j) (every i) (gather every (from (suc i) m)), places_once x i (M.own i) 0 k j, gather_low m (suc i) k j (omega (arith, e))))
-      (λ a. omega (arith, count_append (is_at k j) (every i) (gather every (from (suc i) m)), places_low x i (M.own i) 0 k j (inl a), gather_once m (suc i) k j)) (cases_eq k i)
+      (λ e. omega (arith, count_append (is_at k j) (every i) (flat_map every (from (suc i) m)), places_once x i (M.own i) 0 k j, gather_low m (suc i) k j (omega (arith, e))))
+      (λ a. omega (arith, count_append (is_at k j) (every i) (flat_map every (from (suc i) m)), places_low x i (M.own i) 0 k j (inl a), gather_once m (suc i) k j)) (cases_eq k i)
 
 pub index_once : (M : Meaning) → M.indexed ≡ false → Once (index_on M)
 unfolding index_on every
-index_once M off = subst (λ b. Once (cond b M (record { room = M.room; indexed = true; own = M.own; uses = λ x. gather (λ l. places x l 0 (M.own l)) literals; dead_clauses = 0 }))) (sym off) (λ x k j. gather_once M x 2048 0 k j)
+index_once M off = subst (λ b. Once (cond b M (record { room = M.room; indexed = true; own = M.own; uses = λ x. flat_map (λ l. places x l 0 (M.own l)) literals; dead_clauses = 0 }))) (sym off) (λ x k j. gather_once M x 2048 0 k j)

@@ -1,7 +1,7 @@
 -- How many clauses a subsume_simplify leaves, and how many words are handed out. Assumes nothing.
-use Rattle.std.proofs.Common.{◌≡◌, ℕ, zero, suc, ◌+◌, ◌*◌, ◌≤◌, Bool, true, false, ◌&&◌, eqb, ltb, List, [], ◌∷◌, ◌++◌, map, length, get_or, Some, None, Option, sym, refl, subst, inl, inr, ⊎_elim, arith}
+use Rattle.std.proofs.Common.{◌≡◌, ℕ, zero, suc, ◌+◌, ◌*◌, ◌≤◌, Bool, true, false, ◌&&◌, eqb, ltb, List, [], ◌∷◌, ◌++◌, map, length, get_or, Some, None, Option, sym, refl, subst, inl, inr, ⊎_elim, arith, flat_map}
 use Rattle.std.proofs.lemmas.Bool.{cond_both}
-use Rattle.network.specs.Lists.{In, gather}
+use Rattle.network.specs.Lists.{In}
 use Rattle.network.specs.Values.{unit_of}
 use Rattle.network.proofs.Lists.{in_cases}
 use Rattle.image.specs.Runs.{written}
@@ -108,20 +108,19 @@ module _ (W : Work) (L : Lawful W.store) where
       go true (Some b) = unit_few b
       go false (Some b) = own_few
 
-  runs_few : (t i : ℕ) → length (gather (λ r. r) (map (λ n. written (handed_out W n)) (from i t))) ≤ 33 * sum_of (map (λ n. length (own_of W (2 * n)) + length (own_of W (2 * n + 1))) (from i t)) + 2 * t
-  unfolding gather
+  runs_few : (t i : ℕ) → length (flat_map (λ r. r) (map (λ n. written (handed_out W n)) (from i t))) ≤ 33 * sum_of (map (λ n. length (own_of W (2 * n)) + length (own_of W (2 * n + 1))) (from i t)) + 2 * t
   runs_few zero i = omega arith
-  runs_few (suc t) i = sums (length (written (handed_out W i) ++ gather (λ r. r) (map (λ n. written (handed_out W n)) (from (suc i) t)))) (length (written (handed_out W i))) (length (gather (λ r. r) (map (λ n. written (handed_out W n)) (from (suc i) t))))
+  runs_few (suc t) i = sums (length (written (handed_out W i) ++ flat_map (λ r. r) (map (λ n. written (handed_out W n)) (from (suc i) t)))) (length (written (handed_out W i))) (length (flat_map (λ r. r) (map (λ n. written (handed_out W n)) (from (suc i) t))))
       (length (own_of W (2 * i)) + length (own_of W (2 * i + 1))) (sum_of (map (λ n. length (own_of W (2 * n)) + length (own_of W (2 * n + 1))) (from (suc i) t))) t
-      (append_length (written (handed_out W i)) (gather (λ r. r) (map (λ n. written (handed_out W n)) (from (suc i) t)))) (run_few i) (runs_few t (suc i))
+      (append_length (written (handed_out W i)) (flat_map (λ r. r) (map (λ n. written (handed_out W n)) (from (suc i) t)))) (run_few i) (runs_few t (suc i))
     where
       sums : (a b c d e t : ℕ) → a ≡ b + c → b ≤ 33 * d + 2 → c ≤ 33 * e + 2 * t → a ≤ 33 * (d + e) + 2 * suc t
       sums a b c d e t p q r = omega arith
 
 pub words_few : (W : Work) → Lawful W.store → W.top ≤ 1023 → length (words_out W) ≤ 3 * W.top + 3 + 33 * live_clauses W.store
 unfolding live_clauses
-words_few W L small = sums (length (words_out W)) W.top (length (gather (λ r. r) (runs_out W))) (sum_of (map (λ n. length (own_of W (2 * n)) + length (own_of W (2 * n + 1))) (from 1 W.top))) (sum_of (map (λ l. length (W.store.own l)) (from (2 * 1) (2 * W.top)))) (sum_of (map (λ l. length (W.store.own l)) literals))
-    (words_count W) (subst (λ ns. length (gather (λ r. r) (map (λ n. written (handed_out W n)) ns)) ≤ 33 * sum_of (map (λ n. length (own_of W (2 * n)) + length (own_of W (2 * n + 1))) (from 1 W.top)) + 2 * W.top) (sym (suc_from W.top 0)) (runs_few W L W.top 1))
+words_few W L small = sums (length (words_out W)) W.top (length (flat_map (λ r. r) (runs_out W))) (sum_of (map (λ n. length (own_of W (2 * n)) + length (own_of W (2 * n + 1))) (from 1 W.top))) (sum_of (map (λ l. length (W.store.own l)) (from (2 * 1) (2 * W.top)))) (sum_of (map (λ l. length (W.store.own l)) literals))
+    (words_count W) (subst (λ ns. length (flat_map (λ r. r) (map (λ n. written (handed_out W n)) ns)) ≤ 33 * sum_of (map (λ n. length (own_of W (2 * n)) + length (own_of W (2 * n + 1))) (from 1 W.top)) + 2 * W.top) (sym (suc_from W.top 0)) (runs_few W L W.top 1))
     (pairs (λ l. length (W.store.own l)) W.top 1) (sum_part (λ l. length (W.store.own l)) 2048 0 (2 * W.top) (2 * 1) (omega arith) (omega arith))
   where
     sums : (a t g s p l : ℕ) → a ≡ t + 3 + g → g ≤ 33 * s + 2 * t → s ≡ p → p ≤ l → a ≤ 3 * t + 3 + 33 * l

@@ -8,7 +8,7 @@ use Rattle.network.specs.Clauses.{has, last, Ordered}
 use Rattle.network.specs.Lists.{In}
 use Rattle.network.specs.Values.{simplified}
 use Rattle.network.specs.Lemmas.{lemmas}
-use Rattle.network.proofs.Lists.{in_cases, any_none, gather_in}
+use Rattle.network.proofs.Lists.{in_cases, any_none, flat_map_in}
 use Rattle.rules.specs.Store.{Meaning, from, up_to, sum_of, live_clauses, kept_clauses, index_on, index_off}
 use Rattle.rules.specs.Held.{held, Placed}
 use Rattle.rules.specs.Good.{Good}
@@ -235,7 +235,7 @@ module _ (first : Network) (W : Work) (G : Good first W) (L : Lawful W.store) (h
       sums a d k n m p q r = omega arith
 
   pub const_accepted : AllAccepted (const_entries W)
-  const_accepted e i = go (gather_in (λ t. node_entries t.at t.before) (const_turns W) e i)
+  const_accepted e i = go (flat_map_in (λ t. node_entries t.at t.before) (const_turns W) e i)
     where
       go : (T : Turn) × In T (const_turns W) × In e (node_entries T.at T.before) → (S : List ℕ) → simplified e.before.values e.clause ≡ Some S → Accepted e.before S
       go (T, j, k) = accepted₀.1 T (subst (λ ns. In T (turns ns W₀)) (const.suc_from W.top 0) j) e k
@@ -375,7 +375,7 @@ module _ (first : Network) where
         (λ e i. absurd i) (λ e i. (attempts_met W.store.room (suc W.top) (up_to (suc W.top)) (storing W (index_on W.store)) (index_met e)).1 T i)
 
     pub bve_accepted : AllAccepted (bve_entries W)
-    bve_accepted e i = go (gather_in (λ t. attempt_entries t.at t.before) (bve_turns W) e i)
+    bve_accepted e i = go (flat_map_in (λ t. attempt_entries t.at t.before) (bve_turns W) e i)
       where
         go : (T : Turn) × In T (bve_turns W) × In e (attempt_entries T.at T.before) → (S : List ℕ) → simplified e.before.values e.clause ≡ Some S → Accepted e.before S
         go (T, j, k) = attempt_accepted T.at T.before (bve_met T j).good (bve_met T j).lawful e k

@@ -1,8 +1,7 @@
 -- What a store of clauses means, and what each change makes of that.
 -- Assumes nothing.
-use Rattle.std.specs.Prelude.{ℕ, zero, suc, ◌+◌, ◌-◌, Bool, true, false, cond, not, ◌&&◌, List, [], ◌∷◌, ◌++◌, map, length, take, drop, filter, ◌==◌, nat_lt, slice_index_or, slice_set}
+use Rattle.std.specs.Prelude.{ℕ, zero, suc, ◌+◌, ◌-◌, Bool, true, false, cond, not, ◌&&◌, List, [], ◌∷◌, ◌++◌, map, length, take, drop, filter, ◌==◌, nat_lt, slice_index_or, slice_set, flat_map}
 use Rattle.std.specs.List.{list_any}
-use Rattle.network.specs.Lists.{gather}
 use Rattle.network.specs.Clauses.{without, has, last, front, well_formed}
 
 -- what a list of uses refers to: place i of the clauses whose last literal is l, or a clause that is there no more
@@ -158,7 +157,7 @@ index_on M = cond M.indexed M (record {
   room = M.room;
   indexed = true;
   own = M.own;
-  uses = λ x. gather (λ l. places x l 0 (M.own l)) literals;
+  uses = λ x. flat_map (λ l. places x l 0 (M.own l)) literals;
   dead_clauses = 0;
 })
 

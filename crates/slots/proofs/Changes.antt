@@ -1,5 +1,5 @@
 -- Retiring, shortening and the index, by slots and by the meaning. Assumes nothing.
-use Rattle.std.proofs.Common.{◌≡◌, ℕ, zero, suc, ◌+◌, ◌-◌, ◌<◌, Bool, true, false, cond, eqb, List, [], ◌∷◌, map, length, get_or, set, filter, sym, refl, ap, ◌∙◌, subst, inl, inr, arith}
+use Rattle.std.proofs.Common.{◌≡◌, ℕ, zero, suc, ◌+◌, ◌-◌, ◌<◌, Bool, true, false, cond, eqb, List, [], ◌∷◌, map, length, get_or, set, filter, sym, refl, ap, ◌∙◌, subst, inl, inr, arith, flat_map}
 use mathlib.Core.Path.{fun_ext}
 use Rattle.std.specs.List.{AllByRecursion, list_any}
 use Rattle.std.proofs.lemmas.Bool.{cases_eq, cases_lt, cases_Bool, cond-true, cond-false, eq-eqb, ne_eqb, lt-ltb, le-ltb}
@@ -7,7 +7,6 @@ use Rattle.std.proofs.lemmas.List.{map-append, get_or-map}
 use Rattle.std.proofs.ByRecursion.{All-get_or}
 use Rattle.rings.specs.Rings.{Lacks, Differ, without, drop_at, at}
 use Rattle.rings.proofs.Drops.{at_here, at_else, drop_at_all, drop_at_differ, drop_at_length, drop_at_low, drop_at_high, drop_at_out, drop_at_map}
-use Rattle.network.specs.Lists.{gather}
 use Rattle.network.specs.Clauses.{last, front, has}
 use Rattle.rules.specs.Store.{live, dead, retired, shortened, index_on, close_up, after_retired, is_at, places, literals}
 use Rattle.slots.specs.Slots.{seek, ref, meant, Kept, filled_by_last}
@@ -162,14 +161,13 @@ refs_of own text n l j (y ∷ ys) h =
       | inr e ↦ ap (map (ref own text)) (cond-false t (y ∷ rest) rest e) ∙ ih ∙ sym (cond-false t (live l j ∷ places n l (suc j) (map text ys)) (places n l (suc j) (map text ys)) e)
     ]
 
-map_gather : {X Y : Type 0} (f : X → Y) (ls : List ℕ) (g : ℕ → List X) (h : ℕ → List Y) → ((l : ℕ) → map f (g l) ≡ h l) → map f (gather g ls) ≡ gather h ls
-unfolding gather
-map_gather f [] g h e = refl
-map_gather f (l ∷ ls) g h e = map-append f (g l) (gather g ls) ∙ (let a = map_gather f ls g h e in let b = e l in cc)
+map_flat_map : {X Y : Type 0} (f : X → Y) (ls : List ℕ) (g : ℕ → List X) (h : ℕ → List Y) → ((l : ℕ) → map f (g l) ≡ h l) → map f (flat_map g ls) ≡ flat_map h ls
+map_flat_map f [] g h e = refl
+map_flat_map f (l ∷ ls) g h e = map-append f (g l) (flat_map g ls) ∙ (let a = map_flat_map f ls g h e in let b = e l in cc)
 
-pub indexed_is : (room : ℕ) (own used used' text : ℕ → List ℕ) (lost : ℕ) → Kept own text → ((m : ℕ) → used' m ≡ gather (λ l. filter (λ x. has m (front (text x))) (own l)) literals) → meant room true own used' text 0 ≡ index_on (meant room false own used text lost)
+pub indexed_is : (room : ℕ) (own used used' text : ℕ → List ℕ) (lost : ℕ) → Kept own text → ((m : ℕ) → used' m ≡ flat_map (λ l. filter (λ x. has m (front (text x))) (own l)) literals) → meant room true own used' text 0 ≡ index_on (meant room false own used text lost)
 unfolding index_on
 indexed_is room own used used' text lost k useds =
     same_meaning room true _ _ _ _ 0 0 (λ l. refl)
-    (λ m. ap (map (ref own text)) (useds m) ∙ map_gather (ref own text) literals (λ l. filter (λ x. has m (front (text x))) (own l)) (λ l. places m l 0 (map text (own l))) (λ l. refs_of own text m l 0 (own l) (λ i h. ref_at own text l i k h ∙ ap (live l) (omega arith))))
+    (λ m. ap (map (ref own text)) (useds m) ∙ map_flat_map (ref own text) literals (λ l. filter (λ x. has m (front (text x))) (own l)) (λ l. places m l 0 (map text (own l))) (λ l. refs_of own text m l 0 (own l) (λ i h. ref_at own text l i k h ∙ ap (live l) (omega arith))))
     refl
