@@ -1,9 +1,9 @@
 -- Membership, and tests over a list. Assumes nothing.
-use Rattle.std.proofs.Common.{◌≡◌, ℕ, Bool, true, false, ◌&&◌, ◌||◌, eqb, ◌⊎◌, List, [], ◌∷◌, ◌++◌, map, Some, None, filter, Option, sym, refl, ap, subst, inl, inr, ⊎_elim, arith, flat_map}
+use Rattle.std.proofs.Common.{◌≡◌, ℕ, Bool, true, false, ◌&&◌, ◌||◌, eqb, ◌⊎◌, List, [], ◌∷◌, ◌++◌, map, Some, None, filter, Option, sym, refl, ap, subst, inl, inr, ⊎_elim, arith, flat_map, option_to_list}
 use Rattle.std.specs.List.{list_any, list_all}
 use Rattle.std.proofs.lemmas.Bool.{eqb-true}
 use Rattle.network.specs.Clauses.{has}
-use Rattle.network.specs.Lists.{In, listed}
+use Rattle.network.specs.Lists.{In}
 
 module _ {X : Type 0} where
   pub in_left : (x : X) (xs ys : List X) → In x xs → In x (xs ++ ys)
@@ -88,13 +88,13 @@ module _ {X Y : Type 0} (f : X → List Y) where
   flat_map_in [] y i = absurd i
   flat_map_in (z ∷ xs) y i = ⊎_elim (λ j. (z, inl refl, j)) (λ j. let k = flat_map_in xs y j in (k.0, inr k.1, k.2)) (in_cases y (f z) (flat_map f xs) i)
 
-pub in_listed : {X : Type 0} (o : Option X) (x : X) → o ≡ Some x → In x (listed o)
-in_listed o x e = rw e (inl refl)
+pub in_option : {X : Type 0} (o : Option X) (x : X) → o ≡ Some x → In x (option_to_list o)
+in_option o x e = rw e (inl refl)
 
-pub listed_in : {X : Type 0} (o : Option X) (x : X) → In x (listed o) → o ≡ Some x
-listed_in None x i = absurd i
-listed_in (Some y) x (inl e) = ap Some (sym e)
-listed_in (Some y) x (inr i) = absurd i
+pub option_in : {X : Type 0} (o : Option X) (x : X) → In x (option_to_list o) → o ≡ Some x
+option_in None x i = absurd i
+option_in (Some y) x (inl e) = ap Some (sym e)
+option_in (Some y) x (inr i) = absurd i
 
 pub has_in : (l : ℕ) (D : List ℕ) → has l D ≡ true → In l D
 has_in l D h = let k = any_some (eqb l) D h in rw (eqb-true l k.0 k.2) k.1

@@ -1,8 +1,7 @@
 -- bve_simplify: a node that costs no more than it gives is replaced by its resolvents (bounded variable elimination).
 -- Assumes nothing.
-use Rattle.std.specs.Prelude.{ℕ, zero, suc, ◌+◌, ◌*◌, Bool, cond, not, ◌||◌, List, [], ◌∷◌, ◌++◌, map, length, filter, ◌==◌, nat_lt, flat_map}
+use Rattle.std.specs.Prelude.{ℕ, zero, suc, ◌+◌, ◌*◌, Bool, cond, not, ◌||◌, List, [], ◌∷◌, ◌++◌, map, length, filter, ◌==◌, nat_lt, flat_map, option_to_list}
 use Rattle.std.specs.List.{list_any}
-use Rattle.network.specs.Lists.{listed}
 use Rattle.network.specs.Resolution.{resolve}
 use Rattle.network.specs.Lemmas.{lemmas}
 use Rattle.rules.specs.Store.{Ref, live, dead, Meaning, is_at, up_to, count, clause_at, index_on}
@@ -15,7 +14,7 @@ referred_clause M dead = []
 
 -- the resolvents upon p of the clauses Cs, which have p, with those that the refs Rs are to
 unfoldable pub resolvents : Meaning → ℕ → List (List ℕ) → List Ref → List (List ℕ)
-resolvents M p Cs Rs = flat_map (λ C. flat_map (λ R. listed (resolve p C (referred_clause M R))) Rs) Cs
+resolvents M p Cs Rs = flat_map (λ C. flat_map (λ R. option_to_list (resolve p C (referred_clause M R))) Rs) Cs
 
 -- the resolvents upon n: own(2n) with uses(2n + 1), then own(2n + 1) with uses(2n)
 unfoldable pub all_resolvents : Meaning → ℕ → List (List ℕ)
