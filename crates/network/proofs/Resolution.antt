@@ -133,7 +133,7 @@ module _ (x : ℕ) (C D : List ℕ) (oC : Ordered C) (oD : Ordered D) where
   resolvent_exactly R = go (resolve x C D) (resolve_is x C D (ordered_rising C oC) (ordered_rising D oD))
     where
       go : (r : Option (List ℕ)) → Resolved x C D r → (r ≡ Some R) ↔ Resolvent x C D R
-      go None t = ((λ e. let z : ◌≡◌ {A = ℕ} 0 1 = cc in absurd (omega arith)), λ p. absurd (resolvent_tautology x C D R p t))
+      go None t = ((λ e. cc), λ p. absurd (resolvent_tautology x C D R p t))
       go (Some S) p = ((λ e. let q : S ≡ R = cc in subst (Resolvent x C D) q p), λ q. ap Some (resolvent_once x C D S R p q))
 
   pub tautology_exactly : (resolve x C D ≡ None) ↔ Tautology x C D
@@ -141,7 +141,7 @@ module _ (x : ℕ) (C D : List ℕ) (oC : Ordered C) (oD : Ordered D) where
     where
       go : (r : Option (List ℕ)) → Resolved x C D r → (r ≡ None) ↔ Tautology x C D
       go None t = ((λ e. t), λ q. refl)
-      go (Some S) p = ((λ e. let z : ◌≡◌ {A = ℕ} 0 1 = cc in absurd (omega arith)), λ t. absurd (resolvent_tautology x C D S p t))
+      go (Some S) p = ((λ e. cc), λ t. absurd (resolvent_tautology x C D S p t))
 
 module _ (C D : List ℕ) (oC : Ordered C) (oD : Ordered D) where
   -- where C strengthens D, the resolvent is D without the opposite literal

@@ -134,7 +134,7 @@ none_at p (suc k) r h l = grind (arith, none_at p k r, nat_tests, ap p)
 
 pub some_which : (p : ℕ → Bool) (k : ℕ) → some_row p k ≡ true → (r : ℕ) × (r < k) × (p r ≡ true)
 unfolding some_row
-some_which p zero h = absurd (let z : ◌≡◌ {A = ℕ} 0 1 = cc in omega arith)
+some_which p zero h = cc
 some_which p (suc k) h = ⊎_elim (λ (t : p k ≡ true). (k, omega arith, t)) (λ (f : p k ≡ false). let (r, l, t) = some_which p k (ap (λ (b : Bool). b || some_row p k) (sym f) ∙ h) in (r, omega arith, t)) (cases_Bool (p k))
 
 -- what holds of each node that the clauses name besides 0 and n holds of each that is noted

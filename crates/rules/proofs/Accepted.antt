@@ -190,10 +190,10 @@ shrinks_short V C S e = go (simplified V C) (no_longer V C) e
     is T q = cc
 
     not_goes : goes ≡ shrinks S → ⊥
-    not_goes q = let z : ◌≡◌ {A = ℕ} 0 1 = cc in omega arith
+    not_goes q = cc
 
     not_stays : stays ≡ shrinks S → ⊥
-    not_stays q = let z : ◌≡◌ {A = ℕ} 0 1 = cc in omega arith
+    not_stays q = cc
 
     go : (o : Option (List ℕ)) → NoLonger C o → fate_of C o ≡ shrinks S → length S ≤ length C
     go None n q = absurd (not_goes q)

@@ -1,12 +1,13 @@
 -- Marked clauses cleared from a list. Assumes nothing.
 use Rattle.std.proofs.Common.{◌≡◌, ℕ, zero, suc, ◌+◌, ◌-◌, ◌<◌, ◌≤◌, Bool, true, false, ltb, List, [], ◌∷◌, ◌++◌, length, get_or, replicate, sym, refl, ap, ◌∙◌, subst, ⊎_elim, arith}
 use Rattle.std.proofs.lemmas.Bool.{cases_eq, cond_both, both_ways, ltb-true, ltb-false}
+use Rattle.std.proofs.lemmas.List.{get_or-replicate, length-append, length-replicate}
 use Rattle.network.specs.Lists.{In}
 use Rattle.rules.specs.Store.{Meaning, swap_out, removed}
 use Rattle.rules.specs.Index.{Indexed}
 use Rattle.rules.specs.Work.{cleared, clear, clear_all}
 use Rattle.rules.proofs.Places.{in_at, at_in}
-use Rattle.rules.proofs.Index.{removed_own, removed_apart, removed_length, removed_indexed, swap_length, swap_here, swap_other, append_length}
+use Rattle.rules.proofs.Index.{removed_own, removed_apart, removed_length, removed_indexed, swap_length, swap_here, swap_other}
 
 -- E stands at a place that is not marked
 abbrev pub Left : List Bool → List (List ℕ) → List ℕ → Type 0
@@ -83,19 +84,10 @@ module _ (l : ℕ) where
       (λ t. cleared_is f (suc i) marks M len (λ j lj. ⊎_elim (λ q. ap (λ g. get_or marks g false) q ∙ t) (λ a. u j (omega (arith, a))) (cases_eq j i)) (omega arith)))
       (λ e. done i marks M u (ltb-false i (length (M.own l)) e))
 
-replicate_at : (n j : ℕ) (b : Bool) → j < n → get_or (replicate n b) j false ≡ b
-replicate_at zero j b l = absurd (omega arith)
-replicate_at (suc n) zero b l = refl
-replicate_at (suc n) (suc j) b l = replicate_at n j b (omega arith)
-
 replicate_false : (n j : ℕ) → get_or (replicate n false) j false ≡ false
 replicate_false zero j = refl
 replicate_false (suc n) zero = refl
 replicate_false (suc n) (suc j) = replicate_false n j
-
-pub replicate_length : {X : Type 0} (n : ℕ) (b : X) → length (replicate n b) ≡ n
-replicate_length zero b = refl
-replicate_length (suc n) b = ap suc (replicate_length n b)
 
 -- unmarked places past the marks
 padded : (marks : List Bool) (n j : ℕ) → get_or (marks ++ replicate n false) j false ≡ get_or marks j false
@@ -107,7 +99,7 @@ pub clear_is : (l : ℕ) (marks : List Bool) (M : Meaning) → length marks ≤ 
 unfolding clear
 clear_is l marks M le =
     let c = cleared_is l (length (M.own l)) 0 (marks ++ replicate (length (M.own l) - length marks) false) M
-    (omega (arith, append_length marks (replicate (length (M.own l) - length marks) false), replicate_length (length (M.own l) - length marks) false)) (λ j lj. absurd (omega arith)) (omega arith) in
+    (omega (arith, length-append marks (replicate (length (M.own l) - length marks) false), length-replicate (length (M.own l) - length marks) false)) (λ j lj. absurd (omega arith)) (omega arith) in
     record {
       apart = c.apart;
       left = λ E h. let (j, lj, u, e) = c.left E h in (j, lj, sym (padded marks (length (M.own l) - length marks) j) ∙ u, e);
@@ -118,8 +110,8 @@ clear_is l marks M le =
 
 pub clear_all_is : (l : ℕ) (M : Meaning) → Cleared l (replicate (length (M.own l)) true) M (clear_all l M)
 unfolding clear_all
-clear_all_is l M = clear_is l (replicate (length (M.own l)) true) M (omega (arith, replicate_length (length (M.own l)) true))
+clear_all_is l M = clear_is l (replicate (length (M.own l)) true) M (omega (arith, length-replicate (length (M.own l)) true))
 
 -- nothing is left
 pub clear_all_empty : (l : ℕ) (M : Meaning) (E : List ℕ) → In E ((clear_all l M).own l) → ⊥
-clear_all_empty l M E h = let (j, lj, u, e) = (clear_all_is l M).left E h in both_ways (get_or (replicate (length (M.own l)) true) j false) u (replicate_at (length (M.own l)) j true lj)
+clear_all_empty l M E h = let (j, lj, u, e) = (clear_all_is l M).left E h in both_ways (get_or (replicate (length (M.own l)) true) j false) u (get_or-replicate (length (M.own l)) j true false lj)

@@ -23,14 +23,14 @@ use Rattle.rules.proofs.Simplified.{Short, says_at, simplified_some, simplified_
 use Rattle.rules.proofs.Enter.{Plus}
 use Rattle.rules.proofs.Drops.{not_nil, swap_kept}
 use Rattle.rules.proofs.Verdicts.{owner_last, last_in}
-use Rattle.rules.proofs.Places.{in_at, at_in, at_past, held_in, in_held, held_old, placed_changed}
-use Rattle.rules.proofs.Index.{entered_own, entered_apart, append_length, append_below}
-use Rattle.rules.proofs.Clear.{Left, Cleared, clear_is, clear_all_is, clear_all_empty, replicate_length}
+use Rattle.rules.proofs.Places.{in_at, at_in, held_in, in_held, held_old, placed_changed}
+use Rattle.rules.proofs.Index.{entered_own, entered_apart}
+use Rattle.rules.proofs.Clear.{Left, Cleared, clear_is, clear_all_is, clear_all_empty}
 use Rattle.rules.proofs.Adds.{entered_plus}
 use Rattle.rules.proofs.Plus.{plus, plus_own, plus_unit, plus_cases, plus_kept, minus_kept, reason_drop, unit_owner}
 use Rattle.rules.proofs.Facts.{none_some}
 use Rattle.network.proofs.Ordered.{ordered_once, ordered_within}
-use Rattle.std.proofs.lemmas.List.{append-nil}
+use Rattle.std.proofs.lemmas.List.{append-nil, get_or_append_left, get_or_past, length-append, length-replicate}
 
 -- a clause of unvalued literals stays as it is
 simplified_same : (V : Values) (S : List ℕ) → ((l : ℕ) → In l S → V (node l) ≡ None) → simplified V S ≡ Some S
@@ -94,7 +94,7 @@ unit_node k true S e = (2 * k, subst (In (2 * k)) (sym e) (inl refl), omega arit
 unit_node k false S e = (2 * k + 1, subst (In (2 * k + 1)) (sym e) (inl refl), omega arith)
 
 mark_below : (marks : List Bool) (j : ℕ) → get_or marks j false ≡ true → j < length marks
-mark_below marks j e = ⊎_elim (λ l. l) (λ l. absurd (both_ways (get_or marks j false) (at_past marks j false l) e)) (cases_lt j (length marks))
+mark_below marks j e = ⊎_elim (λ l. l) (λ l. absurd (both_ways (get_or marks j false) (get_or_past marks j false l) e)) (cases_lt j (length marks))
 
 -- what a node's turn leaves alone
 pub record Turn (m : ℕ) (W N : Work) : Type 0 where
@@ -421,8 +421,8 @@ module _ (first : Network) (n : ℕ) (gone frozen : Assignment) where
       at S h =
           let (t, lt, q) = at_in J.ext S [] h in (
             length Cs + t,
-            subst (λ xs. length Cs + t < length xs) (sym o) (omega (arith, append_length Cs J.ext)),
-            at_past marks (length Cs + t) false (omega (arith, J.len)),
+            subst (λ xs. length Cs + t < length xs) (sym o) (omega (arith, length-append Cs J.ext)),
+            get_or_past marks (length Cs + t) false (omega (arith, J.len)),
             ap (λ xs. get_or xs (length Cs + t) []) o ∙ append_past Cs J.ext t ∙ q,
           )
         where
@@ -433,7 +433,7 @@ module _ (first : Network) (n : ℕ) (gone frozen : Assignment) where
       old_one : j < length Cs → (S : List ℕ) × (simplified V E ≡ Some S) × Left marks own S
       old_one l₁ =
           let (S, p, q) = J.left_ones j l₁ f u in
-          let w : get_or Cs j [] ≡ E = sym (ap (λ xs. get_or xs j []) o ∙ append_below Cs J.ext j [] l₁) ∙ e in
+          let w : get_or Cs j [] ≡ E = sym (ap (λ xs. get_or xs j []) o ∙ get_or_append_left Cs J.ext [] j l₁) ∙ e in
           (S, ap (λ X. simplified X E) (sym v) ∙ ap (simplified N.values) (sym w) ∙ p, ⊎_elim (λ z. (j, lj, f, e ∙ sym w ∙ sym z)) (at S) q)
 
       new_one : length Cs ≤ j → (S : List ℕ) × (simplified V E ≡ Some S) × Left marks own S
@@ -481,12 +481,12 @@ module _ (first : Network) (n : ℕ) (gone frozen : Assignment) where
     own1 = J1.lists ∙ ap (λ xs. xs ++ J1.ext) (J0.others l1 (λ q. omega (arith, q)))
 
     le0 : length r0.0 ≤ length (r1.1.store.own l0)
-    le0 = omega (arith, ap length own0, append_length (W.store.own l0) J0.ext, J0.len)
+    le0 = omega (arith, ap length own0, length-append (W.store.own l0) J0.ext, J0.len)
 
     why0 : (j : ℕ) → j < length (r1.1.store.own l0) → get_or r0.0 j false ≡ true → Reason r1.1.values (get_or (r1.1.store.own l0) j [])
     why0 j lj t =
         let lj' : j < length (W.store.own l0) = omega (arith, mark_below r0.0 j t, J0.len) in
-        subst (Reason r1.1.values) (sym (ap (λ xs. get_or xs j []) own0 ∙ append_below (W.store.own l0) J0.ext j [] lj'))
+        subst (Reason r1.1.values) (sym (ap (λ xs. get_or xs j []) own0 ∙ get_or_append_left (W.store.own l0) J0.ext [] j lj'))
         (reason_grow r0.1.values r1.1.values J1.turn.grow (get_or (W.store.own l0) j []) (J0.gone_ones j lj' t))
 
     abbrev W3 : Work
@@ -502,12 +502,12 @@ module _ (first : Network) (n : ℕ) (gone frozen : Assignment) where
     own3 = cl0.apart l1 (λ q. omega (arith, q)) ∙ own1
 
     le1 : length r1.0 ≤ length (W3.store.own l1)
-    le1 = omega (arith, ap length own3, append_length (W.store.own l1) J1.ext, J1.len)
+    le1 = omega (arith, ap length own3, length-append (W.store.own l1) J1.ext, J1.len)
 
     why1 : (j : ℕ) → j < length (W3.store.own l1) → get_or r1.0 j false ≡ true → Reason W3.values (get_or (W3.store.own l1) j [])
     why1 j lj t =
         let lj' : j < length (W.store.own l1) = omega (arith, mark_below r1.0 j t, J1.len) in
-        subst (Reason r1.1.values) (sym (ap (λ xs. get_or xs j []) own3 ∙ append_below (W.store.own l1) J1.ext j [] lj')) (J1.gone_ones j lj' t)
+        subst (Reason r1.1.values) (sym (ap (λ xs. get_or xs j []) own3 ∙ get_or_append_left (W.store.own l1) J1.ext [] j lj')) (J1.gone_ones j lj' t)
 
     abbrev M4 : Meaning
     M4 = clear l1 r1.0 W3.store
@@ -596,7 +596,7 @@ module _ (first : Network) (n : ℕ) (gone frozen : Assignment) where
 
     all_consting : Consting (storing W (clear_all l W.store))
     unfolding clear_all
-    all_consting = cleared_consting W c l _ (omega (arith, replicate_length (length (W.store.own l)) true)) (λ j lj t. why_all j lj)
+    all_consting = cleared_consting W c l _ (omega (arith, length-replicate (length (W.store.own l)) true)) (λ j lj t. why_all j lj)
 
   record Dropped (i t : ℕ) (W N : Work) : Type 0 where
     cons : Consting N

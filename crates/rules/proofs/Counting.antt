@@ -1,6 +1,7 @@
 -- An elimination enters no more clauses than it removes. Assumes nothing.
 use Rattle.std.proofs.Common.{◌≡◌, ℕ, zero, suc, ◌+◌, ◌-◌, ◌*◌, ◌<◌, ◌≤◌, Bool, false, not, eqb, ltb, ◌⊎◌, List, [], ◌∷◌, length, get_or, filter, sym, refl, ap, ◌∙◌, subst, inl, inr, ⊎_elim, arith}
 use Rattle.std.proofs.lemmas.Bool.{cases_eq, cases_Bool, cond_both, both_ways, ltb-true, eq-eqb}
+use Rattle.std.proofs.lemmas.List.{length-map}
 use Rattle.network.specs.Assignments.{node}
 use Rattle.network.specs.Lists.{In}
 use Rattle.network.specs.Clauses.{Ordered, has, last, front}
@@ -15,7 +16,7 @@ use Rattle.rules.proofs.Places.{in_at}
 use Rattle.rules.proofs.Index.{removed_apart, removed_length, removed_indexed}
 use Rattle.rules.proofs.TakenOut.{front_in}
 use Rattle.rules.proofs.Formed.{front_below}
-use Rattle.rules.proofs.HowMany.{kept_length, map_length, count_none}
+use Rattle.rules.proofs.HowMany.{kept_length, count_none}
 use Rattle.rules.proofs.Once.{Once, is_at_of, removed_once}
 use Rattle.rules.proofs.Lives.{removed_live, removed_part}
 
@@ -67,7 +68,7 @@ module _ (v : ℕ) where
 
     uses_left : (x : ℕ) → length ((removed l i M).uses x) + how_many (is_at l i) (M.uses x) ≡ length (M.uses x)
     unfolding removed
-    uses_left x = omega (arith, map_length (moved_ref l (length (M.own l) - 1) i) (filter (λ r. not (is_at l i r)) (M.uses x)), kept_length (is_at l i) (M.uses x))
+    uses_left x = omega (arith, length-map (filter (λ r. not (is_at l i r)) (M.uses x)) (moved_ref l (length (M.own l) - 1) i), kept_length (is_at l i) (M.uses x))
 
     -- a ref names the clause's literal
     counted : (x : ℕ) → (In x (front C) → ⊥) → how_many (is_at l i) (M.uses x) ≡ 0

@@ -36,10 +36,6 @@ kept_length p (x ∷ xs) = let r = kept_length p xs in go (p x) r
     go true r = omega (arith, r)
     go false r = omega (arith, r)
 
-pub map_length : {X Y : Type 0} (f : X → Y) (xs : List X) → length (map f xs) ≡ length xs
-map_length f [] = refl
-map_length f (x ∷ xs) = ap suc (map_length f xs)
-
 pub count_none : {X : Type 0} (p : X → Bool) (xs : List X) → ((x : X) → In x xs → p x ≡ true → ⊥) → how_many p xs ≡ 0
 unfolding how_many
 count_none p [] h = refl

@@ -2,49 +2,26 @@
 use Rattle.std.proofs.Common.{◌≡◌, ℕ, zero, suc, ◌+◌, ◌-◌, ◌<◌, ◌≤◌, true, false, cond, not, ◌&&◌, eqb, ◌⊎◌, List, [], ◌∷◌, ◌++◌, map, length, get_or, take, set, filter, sym, refl, ap, ◌∙◌, subst, inl, inr, ⊎_elim, arith, flat_map}
 use Rattle.std.proofs.lemmas.Bool.{cases_eq, cases_lt, cases_Bool, cond_both, cond-true, cond-false, not-true, not_from_false, eq-eqb}
 use Rattle.std.proofs.lemmas.Bool.Decides.{nat_tests}
+use Rattle.std.proofs.lemmas.List.{get_or-take, length-take-le, get_or-set_other, get_or-set_same, get_or_append_left, get_or_push, length-append, length-set}
 use Rattle.network.specs.Lists.{In}
 use Rattle.network.specs.Clauses.{has, last, front}
 use Rattle.network.proofs.Lists.{in_left, in_right, in_cases, in_kept, kept_in, in_map, map_in, any_from, in_flat_map, flat_map_in, has_in}
 use Rattle.rules.specs.Store.{Ref, live, dead, Meaning, is_at, from, up_to, literals, swap_out, with_use, entered, moved_ref, removed, with_first, places, index_on}
 use Rattle.rules.specs.Index.{Indexed}
-use Rattle.rules.proofs.Places.{in_at, changed_here, changed_apart, set_length, set_at, set_other}
+use Rattle.rules.proofs.Places.{in_at, changed_here, changed_apart}
 
 module _ {X : Type 0} where
-  take_at : (xs : List X) (n j : ℕ) (d : X) → j < n → get_or (take n xs) j d ≡ get_or xs j d
-  take_at xs zero j d l = absurd (omega arith)
-  take_at [] (suc n) j d l = refl
-  take_at (x ∷ xs) (suc n) zero d l = refl
-  take_at (x ∷ xs) (suc n) (suc j) d l = take_at xs n j d (omega arith)
-
-  take_length : (xs : List X) (n : ℕ) → n ≤ length xs → length (take n xs) ≡ n
-  take_length xs zero l = refl
-  take_length [] (suc n) l = absurd (omega arith)
-  take_length (x ∷ xs) (suc n) l = ap suc (take_length xs n (omega arith))
-
   pub swap_length : (d : X) (i : ℕ) (xs : List X) → length (swap_out d i xs) ≡ length xs - 1
   unfolding swap_out
-  swap_length d i xs = take_length (set xs i (get_or xs (length xs - 1) d)) (length xs - 1) (omega (arith, set_length xs i (get_or xs (length xs - 1) d)))
+  swap_length d i xs = length-take-le (length xs - 1) (set xs i (get_or xs (length xs - 1) d)) (omega (arith, length-set xs i (get_or xs (length xs - 1) d)))
 
   pub swap_here : (d : X) (i : ℕ) (xs : List X) → i < length xs - 1 → get_or (swap_out d i xs) i d ≡ get_or xs (length xs - 1) d
   unfolding swap_out
-  swap_here d i xs l = take_at (set xs i (get_or xs (length xs - 1) d)) (length xs - 1) i d l ∙ set_at xs i (get_or xs (length xs - 1) d) d (omega arith)
+  swap_here d i xs l = get_or-take (length xs - 1) (set xs i (get_or xs (length xs - 1) d)) i d l ∙ get_or-set_same xs i (get_or xs (length xs - 1) d) d (omega arith)
 
   pub swap_other : (d : X) (i j : ℕ) (xs : List X) → j < length xs - 1 → (j ≡ i → ⊥) → get_or (swap_out d i xs) j d ≡ get_or xs j d
   unfolding swap_out
-  swap_other d i j xs l a = take_at (set xs i (get_or xs (length xs - 1) d)) (length xs - 1) j d l ∙ set_other xs i j (get_or xs (length xs - 1) d) d a
-
-  pub append_at : (xs : List X) (y d : X) → get_or (xs ++ (y ∷ [])) (length xs) d ≡ y
-  append_at [] y d = refl
-  append_at (x ∷ xs) y d = append_at xs y d
-
-  pub append_below : (xs ys : List X) (j : ℕ) (d : X) → j < length xs → get_or (xs ++ ys) j d ≡ get_or xs j d
-  append_below [] ys j d l = absurd (omega arith)
-  append_below (x ∷ xs) ys zero d l = refl
-  append_below (x ∷ xs) ys (suc j) d l = append_below xs ys j d (omega arith)
-
-  pub append_length : (xs ys : List X) → length (xs ++ ys) ≡ length xs + length ys
-  append_length [] ys = omega arith
-  append_length (x ∷ xs) ys = omega (arith, append_length xs ys)
+  swap_other d i j xs l a = get_or-take (length xs - 1) (set xs i (get_or xs (length xs - 1) d)) j d l ∙ get_or-set_other xs i j (get_or xs (length xs - 1) d) d a
 
 pub live_lit : (a b c d : ℕ) → live a b ≡ live c d → a ≡ c
 live_lit a b c d e = cc
@@ -53,7 +30,7 @@ pub live_place : (a b c d : ℕ) → live a b ≡ live c d → b ≡ d
 live_place a b c d e = cc
 
 pub live_dead : (a b : ℕ) → live a b ≡ dead → ⊥
-live_dead a b e = let z : ◌≡◌ {A = ℕ} 0 1 = cc in omega arith
+live_dead a b e = cc
 
 pub at_is : (l i a b : ℕ) → is_at l i (live a b) ≡ true → (a ≡ l) × (b ≡ i)
 at_is l i a b e = (grind (arith, nat_tests), grind (arith, nat_tests))
@@ -196,7 +173,7 @@ module _ (M : Meaning) (C : List ℕ) where
   old_stays k j l = ⊎_elim
       (λ e. subst (λ g. (j < length ((entered C M).own g)) × (get_or ((entered C M).own g) j [] ≡ get_or (M.own g) j [])) (sym e)
       (subst (λ xs. (j < length xs) × (get_or xs j [] ≡ get_or (M.own (last C)) j [])) (sym entered_own)
-      (omega (arith, append_length (M.own (last C)) (C ∷ []), subst (λ g. j < length (M.own g)) e l), append_below (M.own (last C)) (C ∷ []) j [] (subst (λ g. j < length (M.own g)) e l))))
+      (omega (arith, length-append (M.own (last C)) (C ∷ []), subst (λ g. j < length (M.own g)) e l), get_or_append_left (M.own (last C)) (C ∷ []) [] j (subst (λ g. j < length (M.own g)) e l))))
       (λ a. subst (λ xs. (j < length xs) × (get_or xs j [] ≡ get_or (M.own k) j [])) (sym (entered_apart k a)) (l, refl)) (cases_eq k (last C))
 
   module _ (I : Indexed M) where
@@ -221,7 +198,7 @@ module _ (M : Meaning) (C : List ℕ) where
 
     new_named : (x : ℕ) → In x (front C) → (length (M.own (last C)) < length ((entered C M).own (last C))) × In x (front (get_or ((entered C M).own (last C)) (length (M.own (last C))) []))
     new_named x h = subst (λ xs. (length (M.own (last C)) < length xs) × In x (front (get_or xs (length (M.own (last C))) []))) (sym entered_own)
-        (omega (arith, append_length (M.own (last C)) (C ∷ [])), subst (λ E. In x (front E)) (sym (append_at (M.own (last C)) C [])) h)
+        (omega (arith, length-append (M.own (last C)) (C ∷ [])), subst (λ E. In x (front E)) (sym (get_or_push (M.own (last C)) C [] (length (M.own (last C))) refl)) h)
 
     pub entered_indexed : Indexed (entered C M)
     entered_indexed = record {
@@ -237,9 +214,9 @@ module _ (M : Meaning) (C : List ℕ) where
         last_every x k j l m h = ⊎_elim
             (λ e. let l' = subst (λ g. j < length ((entered C M).own g)) e l in
             let m' = subst (λ g. length (M.own g) ≤ j) e m in
-            let q : j ≡ length (M.own (last C)) = omega (arith, subst (λ xs. j < length xs) entered_own l', append_length (M.own (last C)) (C ∷ []), m') in
+            let q : j ≡ length (M.own (last C)) = omega (arith, subst (λ xs. j < length xs) entered_own l', length-append (M.own (last C)) (C ∷ []), m') in
             subst (λ g. In (live g j) ((entered C M).uses x)) (sym e) (subst (λ g. In (live (last C) g) ((entered C M).uses x)) (sym q)
-            (use_new x (subst (λ E. In x (front E)) (ap (λ xs. get_or xs (length (M.own (last C))) []) entered_own ∙ append_at (M.own (last C)) C [])
+            (use_new x (subst (λ E. In x (front E)) (ap (λ xs. get_or xs (length (M.own (last C))) []) entered_own ∙ get_or_push (M.own (last C)) C [] (length (M.own (last C))) refl)
             (subst (λ g. In x (front (get_or ((entered C M).own (last C)) g []))) q (subst (λ g. In x (front (get_or ((entered C M).own g) j []))) e h))))))
             (λ a. absurd (omega (arith, subst (λ xs. j < length xs) (entered_apart k a) l, m))) (cases_eq k (last C))
 

@@ -3,13 +3,14 @@ use Rattle.std.proofs.Common.{◌≡◌, ℕ, zero, suc, ◌+◌, ◌-◌, ◌<�
 use Rattle.std.specs.List.{list_any}
 use Rattle.std.proofs.lemmas.Bool.{cases_eq, cases_lt, cases_Bool, cond_both, both_ways, and_parts, ltb-true, not-true}
 use Rattle.std.proofs.lemmas.Bool.Decides.{nat_tests}
+use Rattle.std.proofs.lemmas.List.{length-append}
 use Rattle.network.specs.Lists.{In}
 use Rattle.network.specs.Clauses.{has, last, front, without, well_formed}
 use Rattle.network.proofs.Lists.{in_cases, kept_in, map_in, any_none, flat_map_in, has_in}
 use Rattle.rules.specs.Store.{Ref, live, dead, Meaning, is_at, is_dead, from, literals, sum_of, how_many, live_clauses, kept_clauses, emptied, with_use, entered, moved_ref, removed, after_retired, referred, retired, shortened, places, index_on, index_off, present, enterable, droppable}
 use Rattle.rules.specs.Lawful.{Lawful}
 use Rattle.rules.proofs.Places.{in_at, closed_in, closed_length, set_in, retired_own, retired_apart, shortened_own, shortened_apart, shortened_length}
-use Rattle.rules.proofs.Index.{append_length, live_lit, live_place, live_dead, at_is, moved_here, moved_not, removed_apart, removed_length, entered_own, entered_apart, old_stays, places_named, places_live, in_up_to}
+use Rattle.rules.proofs.Index.{live_lit, live_place, live_dead, at_is, moved_here, moved_not, removed_apart, removed_length, entered_own, entered_apart, old_stays, places_named, places_live, in_up_to}
 use Rattle.rules.proofs.HowMany.{count_either, count_more, count_kept, count_map, count_none, count_append, count_one, sum_part}
 use Rattle.rules.proofs.Once.{is_at_of, removed_once, index_once}
 use Rattle.rules.proofs.Lives.{entered_live, removed_live, removed_part, retired_live, shortened_live}
@@ -71,7 +72,7 @@ module _ (C : List ℕ) (M : Meaning) (L : Lawful M) (ok : enterable M C ≡ tru
 
       new : live l i ≡ live (last C) (length (M.own (last C))) → i < length ((entered C M).own l)
       new q = subst (λ g. i < length ((entered C M).own g)) (sym (live_lit l i (last C) (length (M.own (last C))) q))
-          (omega (arith, live_place l i (last C) (length (M.own (last C))) q, ap length (entered_own M C), append_length (M.own (last C)) (C ∷ [])))
+          (omega (arith, live_place l i (last C) (length (M.own (last C))) q, ap length (entered_own M C), length-append (M.own (last C)) (C ∷ [])))
 
   entered_once : (x l i : ℕ) → how_many (is_at l i) ((entered C M).uses x) ≤ 1
   entered_once x l i = use_cases x (λ rs. how_many (is_at l i) rs ≤ 1)

@@ -2,6 +2,7 @@
 use Rattle.std.proofs.Common.{◌≡◌, ℕ, zero, suc, ◌+◌, ◌-◌, ◌*◌, ◌<◌, ◌≤◌, cond, ltb, ◌⊎◌, List, [], ◌∷◌, length, get_or, set, sym, refl, ap, ◌∙◌, subst, inl, inr, ⊎_elim, arith}
 use Rattle.std.proofs.lemmas.Bool.{cases_eq, cond_both}
 use Rattle.std.proofs.lemmas.Bool.Decides.{nat_tests}
+use Rattle.std.proofs.lemmas.List.{get_or-set_other, get_or-set_same, length-set}
 use Rattle.network.specs.Assignments.{node}
 use Rattle.network.specs.Lists.{In}
 use Rattle.network.specs.Clauses.{without, last}
@@ -19,11 +20,6 @@ module _ {X : Type 0} where
   at_in [] x d h = absurd h
   at_in (y ∷ xs) x d (inl e) = (0, omega arith, sym e)
   at_in (y ∷ xs) x d (inr h) = let (i, l, e) = at_in xs x d h in (suc i, omega arith, e)
-
-  pub at_past : (xs : List X) (i : ℕ) (d : X) → length xs ≤ i → get_or xs i d ≡ d
-  at_past [] i d l = refl
-  at_past (x ∷ xs) zero d l = absurd (omega arith)
-  at_past (x ∷ xs) (suc i) d l = at_past xs i d (omega arith)
 
   -- close_up
   pub closed_in : (xs : List X) (i : ℕ) (x : X) → In x (close_up i xs) → In x xs
@@ -76,23 +72,6 @@ module _ {X : Type 0} where
   set_here [] i y l = absurd (omega arith)
   set_here (z ∷ xs) zero y l = inl refl
   set_here (z ∷ xs) (suc i) y l = inr (set_here xs i y (omega arith))
-
-  pub set_length : (xs : List X) (i : ℕ) (y : X) → length (set xs i y) ≡ length xs
-  set_length [] i y = refl
-  set_length (z ∷ xs) zero y = refl
-  set_length (z ∷ xs) (suc i) y = ap suc (set_length xs i y)
-
-  pub set_at : (xs : List X) (i : ℕ) (y d : X) → i < length xs → get_or (set xs i y) i d ≡ y
-  set_at [] i y d l = absurd (omega arith)
-  set_at (z ∷ xs) zero y d l = refl
-  set_at (z ∷ xs) (suc i) y d l = set_at xs i y d (omega arith)
-
-  pub set_other : (xs : List X) (i j : ℕ) (y d : X) → (j ≡ i → ⊥) → get_or (set xs i y) j d ≡ get_or xs j d
-  set_other [] i j y d a = refl
-  set_other (z ∷ xs) zero zero y d a = absurd (a refl)
-  set_other (z ∷ xs) zero (suc j) y d a = refl
-  set_other (z ∷ xs) (suc i) zero y d a = refl
-  set_other (z ∷ xs) (suc i) (suc j) y d a = set_other xs i j y d (λ e. a (ap suc e))
 
 pub changed_here : {X : Type 0} (f : ℕ → X) (l : ℕ) (x : X) → changed f l x l ≡ x
 unfolding changed
@@ -178,15 +157,15 @@ module _ (M : Meaning) (l i : ℕ) where
     shortened_here h = held_in (shortened l i x M) l (without x (get_or (M.own l) i [])) (subst (In (without x (get_or (M.own l) i []))) (sym shortened_own) (set_here (M.own l) i (without x (get_or (M.own l) i [])) h))
 
     pub shortened_length : (k : ℕ) → length ((shortened l i x M).own k) ≡ length (M.own k)
-    shortened_length k = ⊎_elim (λ e. subst (λ g. length ((shortened l i x M).own g) ≡ length (M.own g)) (sym e) (ap length shortened_own ∙ set_length (M.own l) i (without x (get_or (M.own l) i []))))
+    shortened_length k = ⊎_elim (λ e. subst (λ g. length ((shortened l i x M).own g) ≡ length (M.own g)) (sym e) (ap length shortened_own ∙ length-set (M.own l) i (without x (get_or (M.own l) i []))))
         (λ a. ap length (shortened_apart k a)) (cases_eq k l)
 
     pub shortened_at : i < length (M.own l) → get_or ((shortened l i x M).own l) i [] ≡ without x (get_or (M.own l) i [])
-    shortened_at h = ap (λ xs. get_or xs i []) shortened_own ∙ set_at (M.own l) i (without x (get_or (M.own l) i [])) [] h
+    shortened_at h = ap (λ xs. get_or xs i []) shortened_own ∙ get_or-set_same (M.own l) i (without x (get_or (M.own l) i [])) [] h
 
     pub shortened_other : (k j : ℕ) → ((k ≡ l) → (j ≡ i) → ⊥) → get_or ((shortened l i x M).own k) j [] ≡ get_or (M.own k) j []
     shortened_other k j a = ⊎_elim
-        (λ e. subst (λ g. get_or ((shortened l i x M).own g) j [] ≡ get_or (M.own g) j []) (sym e) (ap (λ xs. get_or xs j []) shortened_own ∙ set_other (M.own l) i j (without x (get_or (M.own l) i [])) [] (a e)))
+        (λ e. subst (λ g. get_or ((shortened l i x M).own g) j [] ≡ get_or (M.own g) j []) (sym e) (ap (λ xs. get_or xs j []) shortened_own ∙ get_or-set_other (M.own l) i j (without x (get_or (M.own l) i [])) [] (a e)))
         (λ d. ap (λ xs. get_or xs j []) (shortened_apart k d)) (cases_eq k l)
 
 -- one list changed, and each clause is still in the list of its last literal

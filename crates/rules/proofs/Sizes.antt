@@ -1,6 +1,7 @@
 -- How many clauses a subsume_simplify leaves, and how many words are handed out. Assumes nothing.
 use Rattle.std.proofs.Common.{◌≡◌, ℕ, zero, suc, ◌+◌, ◌*◌, ◌≤◌, Bool, true, false, ◌&&◌, eqb, ltb, List, [], ◌∷◌, ◌++◌, map, length, get_or, Some, None, Option, sym, refl, subst, inl, inr, ⊎_elim, arith, flat_map}
 use Rattle.std.proofs.lemmas.Bool.{cond_both}
+use Rattle.std.proofs.lemmas.List.{length-append}
 use Rattle.network.specs.Lists.{In}
 use Rattle.network.specs.Values.{unit_of}
 use Rattle.network.proofs.Lists.{in_cases}
@@ -11,7 +12,6 @@ use Rattle.rules.specs.Work.{Work, own_of, each, literals_of}
 use Rattle.rules.specs.Subsume.{Verdict, apart, subsumed, merged, both_lost, long_lost, verdict, place_after, on_verdict, checked_from, checked, walk_on, walked, walk, subsume_simplify}
 use Rattle.rules.specs.Subsume as rule
 use Rattle.rules.specs.Calls.{only_unit, handed_out, runs_out, words_out}
-use Rattle.rules.proofs.Index.{append_length}
 use Rattle.rules.proofs.HowMany.{sum_part}
 use Rattle.rules.proofs.Lives.{retire_fewer, shorten_same, index_live, unindex_live}
 use Rattle.rules.proofs.Formed.{formed_parts}
@@ -85,7 +85,7 @@ subsume_fewer W = sums (live_clauses (index_off (each walk (literals_of W) (inde
 written_few : (Cs : List (List ℕ)) → ((C : List ℕ) → In C Cs → length C ≤ 32) → length (written Cs) ≤ 33 * length Cs
 unfolding written
 written_few [] h = omega arith
-written_few (C ∷ Cs) h = omega (arith, append_length C (written Cs), h C (inl refl), written_few Cs (λ D i. h D (inr i)))
+written_few (C ∷ Cs) h = omega (arith, length-append C (written Cs), h C (inl refl), written_few Cs (λ D i. h D (inr i)))
 
 module _ (W : Work) (L : Lawful W.store) where
   run_few : (n : ℕ) → length (written (handed_out W n)) ≤ 33 * (length (own_of W (2 * n)) + length (own_of W (2 * n + 1))) + 2
@@ -95,7 +95,7 @@ module _ (W : Work) (L : Lawful W.store) where
       own_few : length (written (own_of W (2 * n) ++ own_of W (2 * n + 1))) ≤ 33 * (length (own_of W (2 * n)) + length (own_of W (2 * n + 1))) + 2
       own_few = omega (
         arith,
-        append_length (own_of W (2 * n)) (own_of W (2 * n + 1)),
+        length-append (own_of W (2 * n)) (own_of W (2 * n + 1)),
         written_few (own_of W (2 * n) ++ own_of W (2 * n + 1))
             (λ C i. ⊎_elim (λ j. (formed_parts C (L.formed (2 * n) C j)).short) (λ j. (formed_parts C (L.formed (2 * n + 1) C j)).short) (in_cases C (own_of W (2 * n)) (own_of W (2 * n + 1)) i)),
       )
@@ -112,7 +112,7 @@ module _ (W : Work) (L : Lawful W.store) where
   runs_few zero i = omega arith
   runs_few (suc t) i = sums (length (written (handed_out W i) ++ flat_map (λ r. r) (map (λ n. written (handed_out W n)) (from (suc i) t)))) (length (written (handed_out W i))) (length (flat_map (λ r. r) (map (λ n. written (handed_out W n)) (from (suc i) t))))
       (length (own_of W (2 * i)) + length (own_of W (2 * i + 1))) (sum_of (map (λ n. length (own_of W (2 * n)) + length (own_of W (2 * n + 1))) (from (suc i) t))) t
-      (append_length (written (handed_out W i)) (flat_map (λ r. r) (map (λ n. written (handed_out W n)) (from (suc i) t)))) (run_few i) (runs_few t (suc i))
+      (length-append (written (handed_out W i)) (flat_map (λ r. r) (map (λ n. written (handed_out W n)) (from (suc i) t)))) (run_few i) (runs_few t (suc i))
     where
       sums : (a b c d e t : ℕ) → a ≡ b + c → b ≤ 33 * d + 2 → c ≤ 33 * e + 2 * t → a ≤ 33 * (d + e) + 2 * suc t
       sums a b c d e t p q r = omega arith

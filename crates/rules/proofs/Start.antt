@@ -1,6 +1,7 @@
 -- A work that start makes keeps the network taken in, and none of its entries is refused. Assumes nothing.
 use Rattle.std.proofs.Common.{◌≡◌, ℕ, zero, suc, ◌+◌, ◌/◌, ◌<◌, ◌≤◌, Bool, true, false, eqb, leb, ◌⊎◌, List, [], ◌∷◌, ◌++◌, map, length, get_or, Some, None, Ok, Err, filter, Option, Result, sym, refl, ap, ◌∙◌, subst, inl, inr, ⊎_elim, arith, flat_map}
 use Rattle.std.proofs.lemmas.Bool.{cases_eq, both_ways, eqb-true, eq-eqb, leb-true}
+use Rattle.std.proofs.lemmas.List.{length-append, length-map}
 use Rattle.network.specs.Assignments.{node}
 use Rattle.network.specs.Lists.{In}
 use Rattle.network.specs.Networks.{Network, level, Gates}
@@ -35,8 +36,7 @@ use Rattle.rules.proofs.Simplified.{says_at, simplified_some, simplified_none, u
 use Rattle.rules.proofs.Enter.{Plus, enter_kept}
 use Rattle.rules.proofs.Drops.{swap_kept}
 use Rattle.rules.proofs.Adds.{entered_plus, adds_top, adds_placed, adds_zero}
-use Rattle.rules.proofs.Index.{in_up_to, append_length}
-use Rattle.rules.proofs.HowMany.{map_length}
+use Rattle.rules.proofs.Index.{in_up_to}
 use Rattle.rules.proofs.Passes.{adds_keep}
 use Rattle.rules.proofs.Lawful.{emptied_lawful, emptied_none}
 use Rattle.rules.proofs.Accepted.{adds_short, adds_accepted, adds_live}
@@ -69,7 +69,7 @@ distinct_nodes [] o = tt
 distinct_nodes (x ∷ C) (lo, o) = ((λ i. let (y, j, e) = map_in node (node x) C i in omega (arith, lo y j, e)), distinct_nodes C o)
 
 narrow_short : (C xs : List ℕ) → Ordered C → ((l : ℕ) → In l C → In (node l) xs) → length C ≤ length xs
-narrow_short C xs o h = omega (arith, map_length node C, pigeons (map node C) xs (distinct_nodes C o) (λ k i. let (l, j, e) = map_in node k C i in subst (λ n. In n xs) (sym e) (h l j)))
+narrow_short C xs o h = omega (arith, length-map C node, pigeons (map node C) xs (distinct_nodes C o) (λ k i. let (l, j, e) = map_in node k C i in subst (λ n. In n xs) (sym e) (h l j)))
 
 module _ (ws : List ℕ) (I : Image ws) (fs : List Bool) (z : get_or fs 0 false ≡ true) (G : Gates (taken_in ws) (suc (top ws)) (λ n. get_or fs n false)) where
   abbrev first : Network
@@ -247,13 +247,13 @@ module _ (ws : List ℕ) (I : Image ws) (fs : List Bool) (z : get_or fs 0 false 
 
     gather_length : (f : ℕ → List (List ℕ)) (xs ys : List ℕ) → length (flat_map f (xs ++ ys)) ≡ length (flat_map f xs) + length (flat_map f ys)
     gather_length f [] ys = omega arith
-    gather_length f (x ∷ xs) ys = omega (arith, append_length (f x) (flat_map f (xs ++ ys)), append_length (f x) (flat_map f xs), gather_length f xs ys)
+    gather_length f (x ∷ xs) ys = omega (arith, length-append (f x) (flat_map f (xs ++ ys)), length-append (f x) (flat_map f xs), gather_length f xs ys)
 
     total_is : (k : ℕ) → length (flat_map (taken_in ws) (from 1 k)) ≡ total ws k
     total_is zero = refl
     total_is (suc k) = ap (λ xs. length (flat_map (taken_in ws) xs)) (from_more k 1) ∙ gather_length (taken_in ws) (from 1 k) ((1 + k) ∷ [])
         ∙ one (length (flat_map (taken_in ws) (from 1 k))) (total ws k) (length (taken_in ws (1 + k) ++ [])) (length (clauses (run ws (suc k)))) (total_is k)
-        (append_length (taken_in ws (1 + k)) [] ∙ zero_more (length (taken_in ws (1 + k))) ∙ ap (λ j. length (taken_in ws j)) {x = 1 + k} {y = suc k} (omega arith))
+        (length-append (taken_in ws (1 + k)) [] ∙ zero_more (length (taken_in ws (1 + k))) ∙ ap (λ j. length (taken_in ws j)) {x = 1 + k} {y = suc k} (omega arith))
       where
         one : (a b c d : ℕ) → a ≡ b → c ≡ d → a + c ≡ b + d
         one a b c d p q = omega arith
@@ -307,13 +307,13 @@ module _ (ws : List ℕ) (I : Image ws) (fs : List Bool) (z : get_or fs 0 false 
 
 first_none : (xs : List ℕ) → first_of xs ≡ None → xs ≡ []
 first_none [] e = refl
-first_none (x ∷ xs) e = let q : ◌≡◌ {A = ℕ} 0 1 = cc in absurd (omega arith)
+first_none (x ∷ xs) e = cc
 
 ok_same : (V W : Work) → ◌≡◌ {A = Result Work Fault} (Ok V) (Ok W) → V ≡ W
 ok_same V W e = cc
 
 ok_not : (f : Fault) (W : Work) → ◌≡◌ {A = Result Work Fault} (Err f) (Ok W) → ⊥
-ok_not f W e = let q : ◌≡◌ {A = ℕ} 0 1 = cc in omega arith
+ok_not f W e = cc
 
 -- what a work that start makes comes of
 pub record Started (ws : List ℕ) (fs : List Bool) (M : Meaning) (W : Work) : Type 0 where
