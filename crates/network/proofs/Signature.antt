@@ -1,5 +1,5 @@
 -- The bits of a signature, and what two signatures tell of their clauses. Assumes nothing.
-use Rattle.std.proofs.Common.{◌≡◌, ℕ, zero, suc, ◌+◌, ◌-◌, ◌*◌, ◌/◌, ◌%◌, ◌^◌, ◌<◌, ◌≤◌, min, max, Bool, true, false, cond, not, ◌&&◌, ◌||◌, eqb, ltb, ◌⊎◌, ◌↔◌, List, [], ◌∷◌, sym, refl, ap, ◌∙◌, subst, inl, inr, ⊎_elim, one-mul, mul-div_cancel, arith}
+use Rattle.std.proofs.Common.{◌≡◌, ℕ, zero, suc, ◌+◌, ◌-◌, ◌*◌, ◌/◌, ◌%◌, ◌^◌, ◌<◌, ◌≤◌, min, max, Bool, true, false, cond, not, ◌&&◌, ◌||◌, eqb, ltb, ◌⊎◌, ◌↔◌, List, [], ◌∷◌, sym, refl, ap, ◌∙◌, subst, inl, inr, ⊎_elim, one-mul, mul-div_cancel, arith, fold}
 use Rattle.std.specs.List.{list_any}
 use native.Mathlib.Nat.{div-eq_of_lt}
 use lib.Arith.{bin_ind}
@@ -10,7 +10,7 @@ use Rattle.std.proofs.lemmas.Bool.{eq-eqb, ne_eqb, cases_order, cases_eq, cases_
 use Rattle.std.proofs.lemmas.Bool.Decides.{nat_tests}
 use Rattle.network.specs.Lists.{In}
 use Rattle.network.specs.Clauses.{Subsumes}
-use Rattle.network.specs.Signature.{place, bit, low, high, added, signature, bit_at, Covers, within, missing}
+use Rattle.network.specs.Signature.{place, bit, low, high, signature, bit_at, Covers, within, missing}
 use Rattle.network.proofs.Lists.{any_from, any_some}
 
 -- ---- bits
@@ -116,12 +116,12 @@ or_max false true = refl
 or_max false false = refl
 
 module _ (f : ℕ → ℕ → ℕ) (p : ℕ → ℕ → Bool) (each : (n l j : ℕ) → bit (f n l) j ≡ max (bit n j) (cond (p j l) 1 0)) where
-  bit_from : (n : ℕ) (C : List ℕ) (j : ℕ) → bit (added f n C) j ≡ max (bit n j) (cond (list_any (p j) C) 1 0)
+  bit_from : (n : ℕ) (C : List ℕ) (j : ℕ) → bit (fold f n C) j ≡ max (bit n j) (cond (list_any (p j) C) 1 0)
   bit_from n [] j = omega arith
   bit_from n (l ∷ C) j =
       bit_from (f n l) C j ∙ ap (λ b. max b (cond (list_any (p j) C) 1 0)) (each n l j) ∙ (omega (arith, or_max (p j l) (list_any (p j) C)))
 
-  bit_added : (C : List ℕ) (j : ℕ) → bit (added f 0 C) j ≡ cond (list_any (p j) C) 1 0
+  bit_added : (C : List ℕ) (j : ℕ) → bit (fold f 0 C) j ≡ cond (list_any (p j) C) 1 0
   bit_added C j = bit_from 0 C j ∙ ap (λ b. max b (cond (list_any (p j) C) 1 0)) (bit_zero j) ∙ omega arith
 
 -- ---- the two halves
