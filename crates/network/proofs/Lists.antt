@@ -1,5 +1,5 @@
 -- Membership, and tests over a list. Assumes nothing.
-use Rattle.std.proofs.Common.{◌≡◌, ℕ, Bool, true, false, ◌&&◌, ◌||◌, eqb, ◌⊎◌, List, [], ◌∷◌, ◌++◌, map, Some, None, filter, Option, sym, refl, ap, subst, inl, inr, ⊎_elim, arith, flat_map, option_to_list}
+use Rattle.std.proofs.Common.{◌≡◌, ℕ, Bool, true, false, ◌&&◌, ◌||◌, eqb, ◌⊎◌, List, [], ◌∷◌, ◌++◌, map, Some, None, filter, Option, sym, refl, ap, subst, inl, inr, ⊎_elim, arith, flat_map, option_to_list, fold}
 use Rattle.std.specs.List.{list_any, list_all}
 use Rattle.std.proofs.lemmas.Bool.{eqb-true}
 use Rattle.network.specs.Clauses.{has}
@@ -62,21 +62,24 @@ module _ {X : Type 0} where
   any_same p q [] h = refl
   any_same p q (y ∷ xs) h = grind (arith, h y (inl refl), any_same p q xs (λ x i. h x (inr i)))
 
-  pub any_append : (p : X → Bool) (xs ys : List X) → list_any p (xs ++ ys) ≡ (list_any p xs || list_any p ys)
-  any_append p [] ys = refl
-  any_append p (x ∷ xs) ys = grind (arith, any_append p xs ys)
-
-  pub all_append : (p : X → Bool) (xs ys : List X) → list_all p (xs ++ ys) ≡ (list_all p xs && list_all p ys)
-  all_append p [] ys = refl
-  all_append p (x ∷ xs) ys = grind (arith, all_append p xs ys)
+  pub all_same : (p q : X → Bool) (xs : List X) → ((x : X) → In x xs → p x ≡ q x) → list_all p xs ≡ list_all q xs
+  all_same p q [] h = refl
+  all_same p q (y ∷ xs) h = grind (arith, h y (inl refl), all_same p q xs (λ x i. h x (inr i)))
 
   pub all_kept : (p q : X → Bool) (xs : List X) → list_all p xs ≡ true → list_all p (filter q xs) ≡ true
   all_kept p q [] h = refl
   all_kept p q (x ∷ xs) h = grind (arith, all_kept p q xs)
 
-  pub all_map : {Y : Type 0} (f : Y → X) (p : X → Bool) (ys : List Y) → list_all p (map f ys) ≡ list_all (λ y. p (f y)) ys
-  all_map f p [] = refl
-  all_map f p (y ∷ ys) = rw (all_map f p ys)
+-- what each step of a fold keeps, the fold keeps; and what the step at one element brings and the others keep, the fold brings
+module _ {X Y : Type 0} (P : Y → Type 0) (f : Y → X → Y) where
+  pub fold_keeps : (xs : List X) → ((x : X) → In x xs → (y : Y) → P y → P (f y x)) → (y : Y) → P y → P (fold f y xs)
+  fold_keeps [] step y p = p
+  fold_keeps (x ∷ xs) step y p = fold_keeps xs (λ a i. step a (inr i)) (f y x) (step x (inl refl) y p)
+
+  pub fold_gets : (xs : List X) (x : X) → In x xs → ((a : X) (y : Y) → P y → P (f y a)) → ((y : Y) → P (f y x)) → (y : Y) → P (fold f y xs)
+  fold_gets [] x i keeps here y = absurd i
+  fold_gets (a ∷ xs) x (inl e) keeps here y = fold_keeps xs (λ b _. keeps b) (f y a) (subst (λ b. P (f y b)) e (here y))
+  fold_gets (a ∷ xs) x (inr i) keeps here y = fold_gets xs x i keeps here (f y a)
 
 module _ {X Y : Type 0} (f : X → List Y) where
   pub in_flat_map : (xs : List X) (x : X) (y : Y) → In x xs → In y (f x) → In y (flat_map f xs)

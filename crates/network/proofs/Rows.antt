@@ -1,12 +1,12 @@
 -- From rows to assignments. Assumes nothing.
 use Rattle.std.proofs.Common.{◌≡◌, ℕ, zero, suc, ◌+◌, ◌*◌, ◌/◌, ◌%◌, ◌^◌, ◌<◌, ◌≤◌, Bool, true, false, cond, not, ◌&&◌, ◌||◌, eqb, ◌⊎◌, ◌↔◌, List, [], ◌∷◌, ◌++◌, length, sym, refl, ap, ◌∙◌, subst, inl, inr, ⊎_elim, add-one, arith}
 use Rattle.std.specs.List.{list_all}
-use Rattle.std.proofs.lemmas.Bool.{both_ways, and_parts, and_from, cond-true, cond-false, cond_both, eq-eqb, eqb-true, eqb-false, cases_Bool}
+use Rattle.std.proofs.lemmas.Bool.{not-true, both_ways, and_parts, and_from, cond-true, cond-false, cond_both, eq-eqb, eqb-true, eqb-false, cases_Bool}
 use Rattle.std.proofs.lemmas.Bool.Decides.{nat_tests}
 use Rattle.network.specs.Clauses.{has}
 use Rattle.network.specs.Assignments.{Assignment, node, put, holds, sat, AgreeOn}
 use Rattle.network.specs.Lists.{In}
-use Rattle.network.proofs.Lists.{has_in, in_left, in_right, in_cases, any_from}
+use Rattle.network.proofs.Lists.{has_in, in_left, in_right, in_cases, any_from, all_same, fold_keeps, fold_gets}
 use Rattle.network.proofs.Holding.{holds_agree}
 use Rattle.network.specs.Rows.{noted, noted_in, noted_all, lower, row, allows, no_value, two_values, some_row, clashes, is_loose, Narrow, Valued, Tight, Clash, Loose}
 
@@ -21,34 +21,18 @@ pub noted_gets : (n k : ℕ) (xs : List ℕ) → Known n (noted n xs k) k
 noted_gets n k xs =
     cond_both (eqb k 0 || (eqb k n || has k xs)) xs (xs ++ (k ∷ [])) (λ (z : List ℕ). Known n z k) (λ e. grind (arith, nat_tests, has_in k xs)) (λ _. inr (inr (in_right k xs (k ∷ []) (inl refl))))
 
-pub noted_in_keeps : (n x : ℕ) (xs C : List ℕ) → In x xs → In x (noted_in n xs C)
-noted_in_keeps n x xs [] i = i
-noted_in_keeps n x xs (l ∷ C) i = noted_in_keeps n x (noted n xs (node l)) C (noted_keeps n (node l) x xs i)
+known_kept : (n m k : ℕ) (xs : List ℕ) → Known n xs k → Known n (noted n xs m) k
+known_kept n m k xs h = ⊎_elim inl (λ r. inr (⊎_elim inl (λ i. inr (noted_keeps n m k xs i)) r)) h
 
-known_more : (n k : ℕ) (xs ys : List ℕ) → ((x : ℕ) → In x xs → In x ys) → Known n xs k → Known n ys k
-known_more n k xs ys h (inl e) = inl e
-known_more n k xs ys h (inr (inl e)) = inr (inl e)
-known_more n k xs ys h (inr (inr i)) = inr (inr (h k i))
+noted_in_known : (n k : ℕ) (xs C : List ℕ) → Known n xs k → Known n (noted_in n xs C) k
+noted_in_known n k xs C h = fold_keeps (λ ys. Known n ys k) (λ ys l. noted n ys (node l)) C (λ l i ys. known_kept n (node l) k ys) xs h
 
-pub noted_in_gets : (n : ℕ) (xs C : List ℕ) (l : ℕ) → In l C → Known n (noted_in n xs C) (node l)
-noted_in_gets n xs [] l i = absurd i
-noted_in_gets n xs (m ∷ C) l (inl e) =
-    subst (λ (z : ℕ). Known n (noted_in n (noted n xs (node m)) C) (node z)) (sym e) (known_more n (node m) (noted n xs (node m)) _ (λ x i. noted_in_keeps n x (noted n xs (node m)) C i) (noted_gets n (node m) xs))
-noted_in_gets n xs (m ∷ C) l (inr i) = noted_in_gets n (noted n xs (node m)) C l i
-
-pub noted_all_keeps : (n x : ℕ) (xs : List ℕ) (Cs : List (List ℕ)) → In x xs → In x (noted_all n xs Cs)
-noted_all_keeps n x xs [] i = i
-noted_all_keeps n x xs (C ∷ Cs) i = noted_all_keeps n x (noted_in n xs C) Cs (noted_in_keeps n x xs C i)
-
-pub noted_all_gets : (n : ℕ) (xs : List ℕ) (Cs : List (List ℕ)) (C : List ℕ) (l : ℕ) → In C Cs → In l C → Known n (noted_all n xs Cs) (node l)
-noted_all_gets n xs [] C l i j = absurd i
-noted_all_gets n xs (D ∷ Cs) C l (inl e) j =
-    known_more n (node l) (noted_in n xs D) _ (λ x i. noted_all_keeps n x (noted_in n xs D) Cs i) (noted_in_gets n xs D l (subst (λ (Z : List ℕ). In l Z) e j))
-noted_all_gets n xs (D ∷ Cs) C l (inr i) j = noted_all_gets n (noted_in n xs D) Cs C l i j
+noted_in_gets : (n : ℕ) (xs C : List ℕ) (l : ℕ) → In l C → Known n (noted_in n xs C) (node l)
+noted_in_gets n xs C l i = fold_gets (λ ys. Known n ys (node l)) (λ ys m. noted n ys (node m)) C l i (λ m ys. known_kept n (node m) (node l) ys) (noted_gets n (node l)) xs
 
 -- each node that a clause of n names is 0, n or one of the lower ones
 pub lower_covers : (n : ℕ) (Cs : List (List ℕ)) (C : List ℕ) → In C Cs → (l : ℕ) → In l C → Known n (lower n Cs) (node l)
-lower_covers n Cs C i l j = noted_all_gets n [] Cs C l i j
+lower_covers n Cs C i l j = fold_gets (λ ys. Known n ys (node l)) (noted_in n) Cs C i (λ D ys. noted_in_known n (node l) ys D) (λ ys. noted_in_gets n ys C l j) []
 
 -- the number of the row that σ gives the nodes xs
 abbrev pub code : List ℕ → Assignment → ℕ
@@ -102,10 +86,6 @@ row_like n xs σ b k z h = cond_both (eqb k n) b (row xs (code xs σ) k) (λ (x 
     same (inr (inl e)) o = absurd (o e)
     same (inr (inr i)) o = row_code xs σ k i
 
-all_same : {X : Type 0} (p q : X → Bool) (xs : List X) → ((x : X) → In x xs → p x ≡ q x) → list_all p xs ≡ list_all q xs
-all_same p q [] h = refl
-all_same p q (y ∷ xs) h = grind (arith, h y (inl refl), all_same p q xs (λ x i. h x (inr i)))
-
 pub sat_agree : (σ τ : Assignment) (Cs : List (List ℕ)) → ((C : List ℕ) → In C Cs → AgreeOn C σ τ) → sat σ Cs ≡ sat τ Cs
 sat_agree σ τ Cs h = all_same (holds σ) (holds τ) Cs (λ C i. holds_agree σ τ C (h C i))
 
@@ -154,15 +134,10 @@ module _ (P : ℕ → Type 0) (n : ℕ) where
       added x e (inr q) = absurd q
 
   noted_in_only : (C xs : List ℕ) → Each xs → Named C → Each (noted_in n xs C)
-  noted_in_only [] xs h p = h
-  noted_in_only (l ∷ C) xs h p = noted_in_only C (noted n xs (node l)) (noted_only (node l) xs h (p l (inl refl))) (λ m i. p m (inr i))
-
-  noted_all_only : (Cs : List (List ℕ)) (xs : List ℕ) → Each xs → ((C : List ℕ) → In C Cs → Named C) → Each (noted_all n xs Cs)
-  noted_all_only [] xs h p = h
-  noted_all_only (C ∷ Cs) xs h p = noted_all_only Cs (noted_in n xs C) (noted_in_only C xs h (p C (inl refl))) (λ D i. p D (inr i))
+  noted_in_only C xs h p = fold_keeps Each (λ ys l. noted n ys (node l)) C (λ l i ys e. noted_only (node l) ys e (p l i)) xs h
 
   pub lower_only : (Cs : List (List ℕ)) → ((C : List ℕ) → In C Cs → Named C) → Each (lower n Cs)
-  lower_only Cs p = noted_all_only Cs [] (λ x i. absurd i) p
+  lower_only Cs p = fold_keeps Each (noted_in n) Cs (λ C i ys e. noted_in_only C ys e (p C i)) [] (λ x i. absurd i)
 
 -- each once
 abbrev pub Distinct : List ℕ → Type 0
@@ -186,12 +161,7 @@ noted_distinct n k xs d =
     out t e = grind (arith, t, e)
 
 noted_in_distinct : (n : ℕ) (C xs : List ℕ) → Distinct xs → Distinct (noted_in n xs C)
-noted_in_distinct n [] xs d = d
-noted_in_distinct n (l ∷ C) xs d = noted_in_distinct n C (noted n xs (node l)) (noted_distinct n (node l) xs d)
-
-noted_all_distinct : (n : ℕ) (Cs : List (List ℕ)) (xs : List ℕ) → Distinct xs → Distinct (noted_all n xs Cs)
-noted_all_distinct n [] xs d = d
-noted_all_distinct n (C ∷ Cs) xs d = noted_all_distinct n Cs (noted_in n xs C) (noted_in_distinct n C xs d)
+noted_in_distinct n C xs d = fold_keeps Distinct (λ ys l. noted n ys (node l)) C (λ l i ys. noted_distinct n (node l) ys) xs d
 
 -- as many places as different elements
 taken_out : (y : ℕ) (ys : List ℕ) → In y ys → (zs : List ℕ) × (length ys ≡ suc (length zs)) × ((x : ℕ) → In x ys → (x ≡ y → ⊥) → In x zs)
@@ -214,7 +184,7 @@ pigeons (x ∷ xs) ys (a, d) h =
     omega (arith, l, pigeons xs zs d (λ z i. k z (h z (inr i)) (λ e. a (subst (λ (w : ℕ). In w xs) e i))))
 
 pub lower_distinct : (n : ℕ) (Cs : List (List ℕ)) → Distinct (lower n Cs)
-lower_distinct n Cs = noted_all_distinct n Cs [] tt
+lower_distinct n Cs = fold_keeps Distinct (noted_in n) Cs (λ C i ys. noted_in_distinct n C ys) [] tt
 
 -- a node that is not among xs is false in every row
 pub row_out : (xs : List ℕ) (r k : ℕ) → (In k xs → ⊥) → row xs r k ≡ false
@@ -260,13 +230,9 @@ module _ (n : ℕ) (Cs : List (List ℕ)) where
       let (r, l, t) = some_which (no_value (lower n Cs) n Cs) _ h in
       (row (lower n Cs) r, row_out (lower n Cs) r 0 (lower_zero n Cs), λ b. neither r b (and_parts (not (allows (lower n Cs) n Cs false r)) (not (allows (lower n Cs) n Cs true r)) t))
     where
-      off : (b : Bool) → not b ≡ true → b ≡ false
-      off true e = sym e
-      off false e = refl
-
       neither : (r : ℕ) (b : Bool) → (not (allows (lower n Cs) n Cs false r) ≡ true) × (not (allows (lower n Cs) n Cs true r) ≡ true) → sat (put (row (lower n Cs) r) n b) Cs ≡ false
-      neither r true (f, t) = off _ t
-      neither r false (f, t) = off _ f
+      neither r true (f, t) = not-true _ t
+      neither r false (f, t) = not-true _ f
 
   pub loose_from : some_row (two_values (lower n Cs) n Cs) (2 ^ length (lower n Cs)) ≡ true → Loose n Cs
   loose_from h =

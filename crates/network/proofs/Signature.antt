@@ -124,6 +124,17 @@ module _ (f : ℕ → ℕ → ℕ) (p : ℕ → ℕ → Bool) (each : (n l j : �
   bit_added : (C : List ℕ) (j : ℕ) → bit (fold f 0 C) j ≡ cond (list_any (p j) C) 1 0
   bit_added C j = bit_from 0 C j ∙ ap (λ b. max b (cond (list_any (p j) C) 1 0)) (bit_zero j) ∙ omega arith
 
+  -- each bit that is set is that of an element that passes, and each of those has its bit
+  bit_some : (C : List ℕ) (j : ℕ) → (bit (fold f 0 C) j ≡ 0) ⊎ ((l : ℕ) × In l C × (p j l ≡ true) × (bit (fold f 0 C) j ≡ 1))
+  bit_some C j = go (list_any (p j) C) refl
+    where
+      go : (b : Bool) → list_any (p j) C ≡ b → (bit (fold f 0 C) j ≡ 0) ⊎ ((l : ℕ) × In l C × (p j l ≡ true) × (bit (fold f 0 C) j ≡ 1))
+      go false e = inl (bit_added C j ∙ ap (λ b. cond b 1 0) e)
+      go true e = let (l, i, t) = any_some (p j) C e in inr (l, i, t, bit_added C j ∙ ap (λ b. cond b 1 0) e)
+
+  bit_has : (C : List ℕ) (j l : ℕ) → In l C → p j l ≡ true → bit (fold f 0 C) j ≡ 1
+  bit_has C j l i t = bit_added C j ∙ ap (λ b. cond b 1 0) (any_from (p j) C l i t)
+
 -- ---- the two halves
 
 abbrev in_low : ℕ → ℕ → Bool
@@ -148,25 +159,17 @@ bit_high n l j = pick (ltb (place l) 64)
 
 -- each bit of a half is that of a literal
 low_some : (C : List ℕ) (j : ℕ) → (bit (signature C).0 j ≡ 0) ⊎ ((l : ℕ) × In l C × (place l < 64) × (place l ≡ j) × (bit (signature C).0 j ≡ 1))
-low_some C j = go (list_any (in_low j) C) refl
-  where
-    go : (b : Bool) → list_any (in_low j) C ≡ b → (bit (signature C).0 j ≡ 0) ⊎ ((l : ℕ) × In l C × (place l < 64) × (place l ≡ j) × (bit (signature C).0 j ≡ 1))
-    go false e = inl (bit_added low in_low bit_low C j ∙ ap (λ b. cond b 1 0) e)
-    go true e = let (l, i, t) = any_some (in_low j) C e in inr (l, i, grind (arith, nat_tests), grind (arith, nat_tests), bit_added low in_low bit_low C j ∙ ap (λ b. cond b 1 0) e)
+low_some C j = ⊎_elim inl (λ (l, i, t, b). inr (l, i, grind (arith, nat_tests), grind (arith, nat_tests), b)) (bit_some low in_low bit_low C j)
 
 high_some : (C : List ℕ) (j : ℕ) → (bit (signature C).1 j ≡ 0) ⊎ ((l : ℕ) × In l C × (64 ≤ place l) × (place l ≡ j + 64) × (bit (signature C).1 j ≡ 1))
-high_some C j = go (list_any (in_high j) C) refl
-  where
-    go : (b : Bool) → list_any (in_high j) C ≡ b → (bit (signature C).1 j ≡ 0) ⊎ ((l : ℕ) × In l C × (64 ≤ place l) × (place l ≡ j + 64) × (bit (signature C).1 j ≡ 1))
-    go false e = inl (bit_added high in_high bit_high C j ∙ ap (λ b. cond b 1 0) e)
-    go true e = let (l, i, t) = any_some (in_high j) C e in inr (l, i, grind (arith, nat_tests), grind (arith, nat_tests), bit_added high in_high bit_high C j ∙ ap (λ b. cond b 1 0) e)
+high_some C j = ⊎_elim inl (λ (l, i, t, b). inr (l, i, grind (arith, nat_tests), grind (arith, nat_tests), b)) (bit_some high in_high bit_high C j)
 
 -- and each literal has its bit
 low_has : (C : List ℕ) (l : ℕ) → In l C → place l < 64 → bit (signature C).0 (place l) ≡ 1
-low_has C l i h = bit_added low in_low bit_low C (place l) ∙ ap (λ b. cond b 1 0) (any_from (in_low (place l)) C l i (grind (arith, nat_tests)))
+low_has C l i h = bit_has low in_low bit_low C (place l) l i (grind (arith, nat_tests))
 
 high_has : (C : List ℕ) (l : ℕ) → In l C → 64 ≤ place l → bit (signature C).1 (place l - 64) ≡ 1
-high_has C l i h = bit_added high in_high bit_high C (place l - 64) ∙ ap (λ b. cond b 1 0) (any_from (in_high (place l - 64)) C l i (grind (arith, nat_tests)))
+high_has C l i h = bit_has high in_high bit_high C (place l - 64) l i (grind (arith, nat_tests))
 
 at_low : (s : ℕ × ℕ) (j : ℕ) → j < 64 → bit_at s j ≡ bit s.0 j
 at_low s j h = cond-true (ltb j 64) (bit s.0 j) (bit s.1 (j - 64)) (lt-ltb j 64 h)

@@ -1,5 +1,6 @@
 -- A clause under the known values. Assumes nothing.
 use Rattle.std.proofs.Common.{◌≡◌, ℕ, ◌<◌, Bool, true, false, ◌||◌, ◌⊎◌, ◌↔◌, List, [], ◌∷◌, Some, None, Option, sym, refl, ap, ◌∙◌, subst, inl, inr, ⊎_elim, arith}
+use Rattle.std.proofs.lemmas.Bool.{or_right}
 use Rattle.network.specs.Assignments.{Assignment, node, lit, holds}
 use Rattle.network.specs.Lists.{In}
 use Rattle.network.specs.Clauses.{Ordered}
@@ -24,11 +25,7 @@ literal_is σ V l b h = lit_flipped σ l (V (node l)) b (h (node l))
 keeps_step : (σ : Assignment) (l : ℕ) (o : Option Bool) (r : Option (List ℕ)) → ((b : Bool) → o ≡ Some b → lit σ l ≡ b) → left_holds σ (kept_literal o l r) ≡ (lit σ l || left_holds σ r)
 keeps_step σ l (Some true) r h = rw (h true refl)
 keeps_step σ l (Some false) r h = rw (h false refl)
-keeps_step σ l None None h = or_true (lit σ l)
-  where
-    or_true : (b : Bool) → true ≡ (b || true)
-    or_true true = refl
-    or_true false = refl
+keeps_step σ l None None h = sym (or_right (lit σ l) true refl)
 keeps_step σ l None (Some C) h = refl
 
 pub simplified_holds : (σ : Assignment) (V : Values) (C : List ℕ) → Obeys σ V → left_holds σ (simplified V C) ≡ holds σ C
