@@ -1,6 +1,5 @@
 -- From rows to assignments. Assumes nothing.
 use Rattle.std.proofs.Common.{◌≡◌, ℕ, zero, suc, ◌+◌, ◌*◌, ◌/◌, ◌%◌, ◌^◌, ◌<◌, ◌≤◌, Bool, true, false, cond, not, ◌&&◌, ◌||◌, eqb, ◌⊎◌, ◌↔◌, List, [], ◌∷◌, ◌++◌, length, sym, refl, ap, ◌∙◌, subst, inl, inr, ⊎_elim, add-one, arith}
-use Rattle.std.specs.List.{list_all}
 use Rattle.std.proofs.lemmas.Bool.{not-true, both_ways, and_parts, and_from, cond-true, cond-false, cond_both, eq-eqb, eqb-true, eqb-false, cases_Bool}
 use Rattle.std.proofs.lemmas.Bool.Decides.{nat_tests}
 use Rattle.network.specs.Clauses.{has}
@@ -8,7 +7,7 @@ use Rattle.network.specs.Assignments.{Assignment, node, put, holds, sat, AgreeOn
 use Rattle.network.specs.Lists.{In}
 use Rattle.network.proofs.Lists.{has_in, in_left, in_right, in_cases, any_from, all_same, fold_keeps, fold_gets}
 use Rattle.network.proofs.Holding.{holds_agree}
-use Rattle.network.specs.Rows.{noted, noted_in, noted_all, lower, row, allows, no_value, two_values, some_row, clashes, is_loose, Narrow, Valued, Tight, Clash, Loose}
+use Rattle.network.specs.Rows.{noted, noted_in, lower, row, allows, no_value, two_values, some_row, clashes, is_loose, Narrow, Valued, Tight, Clash, Loose}
 
 -- k is accounted for: 0, n or one of xs
 abbrev pub Known : ℕ → List ℕ → ℕ → Type 0

@@ -195,9 +195,9 @@ bits_exactly C j h = (⊎_elim lower upper (cases_lt j 64), λ (l, i, e). subst 
 
 module _ (C D : List ℕ) (s : ℕ × ℕ) (c : Covers s D) where
   -- a literal of C whose bit s lacks does not stand in D
-  low_below : (j : ℕ) → ((l : ℕ) → In l C → place l ≡ j → In l D) → bit (signature C).0 j ≤ bit s.0 j
+  low_below : (j : ℕ) → ((l : ℕ) → In l C → place l < 64 → place l ≡ j → In l D) → bit (signature C).0 j ≤ bit s.0 j
   low_below j h = ⊎_elim (λ z. omega arith)
-      (λ (l, i, p, e, t). omega (arith, t, ap (bit s.0) e, at_low s (place l) p, c l (h l i e))) (low_some C j)
+      (λ (l, i, p, e, t). omega (arith, t, ap (bit s.0) e, at_low s (place l) p, c l (h l i p e))) (low_some C j)
 
   high_below : (j : ℕ) → ((l : ℕ) → In l C → place l ≡ j + 64 → In l D) → bit (signature C).1 j ≤ bit s.1 j
   high_below j h = ⊎_elim (λ z. omega arith)
@@ -207,20 +207,13 @@ module _ (C D : List ℕ) (s : ℕ × ℕ) (c : Covers s D) where
   pub part_within : Subsumes C D → within (signature C) s ≡ true
   part_within h =
       and_from (eqb (bit_and (signature C).0 s.0) (signature C).0) (eqb (bit_and (signature C).1 s.1) (signature C).1)
-      (eq-eqb _ _ (and_from_bits (signature C).0 s.0 (λ j. low_below j (λ l i e. h l i))))
+      (eq-eqb _ _ (and_from_bits (signature C).0 s.0 (λ j. low_below j (λ l i p e. h l i))))
       (eq-eqb _ _ (and_from_bits (signature C).1 s.1 (λ j. high_below j (λ l i e. h l i))))
 
   -- where each literal but those of one bit stands in D, at most one bit is missing
   pub but_one_missing : (k : ℕ) → ((l : ℕ) → In l C → (place l ≡ k → ⊥) → In l D) → missing (signature C) s ≤ 1
   but_one_missing k h =
       ⊎_elim
-      (λ p. omega (arith, at_most_one k (signature C).0 s.0 (λ j n. low_below j (λ l i e. h l i (λ q. n (omega arith)))), none_missing (signature C).1 s.1 (λ j. high_below j (λ l i e. h l i (λ q. omega arith)))))
-      (λ p. omega (arith, none_missing' k p h, at_most_one (k - 64) (signature C).1 s.1 (λ j n. high_below j (λ l i e. h l i (λ q. n (omega arith))))))
+      (λ p. omega (arith, at_most_one k (signature C).0 s.0 (λ j n. low_below j (λ l i p e. h l i (λ q. n (omega arith)))), none_missing (signature C).1 s.1 (λ j. high_below j (λ l i e. h l i (λ q. omega arith)))))
+      (λ p. omega (arith, none_missing (signature C).0 s.0 (λ j. low_below j (λ l i r e. h l i (λ q. omega arith))), at_most_one (k - 64) (signature C).1 s.1 (λ j n. high_below j (λ l i e. h l i (λ q. n (omega arith))))))
       (cases_lt k 64)
-    where
-      none_missing' : (k : ℕ) → 64 ≤ k → ((l : ℕ) → In l C → (place l ≡ k → ⊥) → In l D) → ones ((signature C).0 - bit_and (signature C).0 s.0) ≡ 0
-      none_missing' k p h = none_missing (signature C).0 s.0 low_all
-        where
-          low_all : (j : ℕ) → bit (signature C).0 j ≤ bit s.0 j
-          low_all j = ⊎_elim (λ z. omega arith)
-              (λ (l, i, q, e, t). omega (arith, t, ap (bit s.0) e, at_low s (place l) q, c l (h l i (λ r. omega arith)))) (low_some C j)

@@ -1,11 +1,11 @@
 -- `fits_but_one` answers whether a clause is part of another, but for one opposite literal. Assumes nothing.
-use Rattle.std.proofs.Common.{◌≡◌, ℕ, ◌<◌, ◌≤◌, Bool, true, false, eqb, ltb, ◌↔◌, List, [], ◌∷◌, Some, None, Option, refl, ap, subst, inl, arith}
+use Rattle.std.proofs.Common.{◌≡◌, ℕ, ◌<◌, ◌≤◌, Bool, true, false, eqb, ltb, List, [], ◌∷◌, Some, None, Option, refl, subst, inl, arith}
 use Rattle.std.proofs.lemmas.Bool.{cond_both, cases_eq, eqb-true, eqb-false}
 use Rattle.std.proofs.lemmas.Bool.Decides.{nat_tests}
 use Rattle.network.specs.Assignments.{node, opposite}
 use Rattle.network.specs.Lists.{In}
 use Rattle.network.specs.Clauses.{Ordered, Subsumes}
-use Rattle.network.specs.Subsumption.{opposite_noted, fits_from, fits_but_one, Strengthens, Fitted}
+use Rattle.network.specs.Subsumption.{opposite_noted, fits_from, Strengthens, Fitted}
 use Rattle.network.proofs.Literals.{signs}
 use Rattle.network.proofs.Ordered.{ordered_once}
 

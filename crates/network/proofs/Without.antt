@@ -1,7 +1,7 @@
 -- Without a node: a network from which the clauses that name the node v are gone, where each node of the rest has a
 -- value, v has one alone, and the resolvents upon v hold. Assumes nothing.
 use Rattle.std.proofs.Common.{◌≡◌, ℕ, suc, ◌<◌, ◌≤◌, Bool, true, false, not, ◌⊎◌, List, sym, ◌∙◌, inl, inr, ⊎_elim, arith}
-use Rattle.std.proofs.lemmas.Bool.{cases_eq, cases_lt, cases_order, cases_Bool}
+use Rattle.std.proofs.lemmas.Bool.{cases_eq, cases_order, cases_Bool}
 use Rattle.std.proofs.lemmas.Bool.Decides.{nat_tests}
 use Rattle.network.specs.Assignments.{Assignment, node, opposite, lit, put, holds, sat}
 use Rattle.network.specs.Lists.{In}
@@ -10,8 +10,8 @@ use Rattle.network.specs.Networks.{Network, level, Owned, Free}
 use Rattle.network.specs.Resolution.{Resolves}
 use Rattle.network.proofs.Literals.{lit_neg, lit_agree, put_apart, node_cases}
 use Rattle.network.proofs.Lists.{all_at, all_from, all_not, any_from, any_some, any_none}
-use Rattle.network.proofs.Holding.{holds_agree, holds_put}
-use Rattle.network.proofs.Levels.{below_more, below_put, below_agree}
+use Rattle.network.proofs.Holding.{holds_put}
+use Rattle.network.proofs.Levels.{below_more, below_put}
 use Rattle.network.proofs.Networks.{locals, clause_at}
 
 pub lit_apart : (σ : Assignment) (v : ℕ) (b : Bool) (l : ℕ) → (node l ≡ v → ⊥) → lit (put σ v b) l ≡ lit σ l
