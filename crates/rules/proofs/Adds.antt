@@ -12,6 +12,7 @@ use Rattle.rules.specs.Store.{Meaning, entered}
 use Rattle.rules.specs.Held.{held, Placed}
 use Rattle.rules.specs.Index.{Indexed}
 use Rattle.rules.specs.Work.{Work, each, known_by}
+use Rattle.rules.proofs.Along.{stays_chains, each_along}
 use Rattle.rules.proofs.Plain.{add_simplified, add}
 use Rattle.rules.proofs.Kept.{with_apart}
 use Rattle.rules.proofs.Simplified.{says_at, simplified_some, simplified_none, unit_true}
@@ -63,12 +64,10 @@ add_indexed C W I = go (simplified W.values C)
     go (Some S) = entered_indexed W.store S I
 
 pub adds_placed : (Cs : List (List ℕ)) (W : Work) → Placed W.store → Placed (each add Cs W).store
-adds_placed [] W P = P
-adds_placed (C ∷ Cs) W P = adds_placed Cs (add C W) (add_placed C W P)
+adds_placed = each_along (λ W N. Placed W.store → Placed N.store) (stays_chains (λ W. Placed W.store)) add add_placed
 
 pub adds_indexed : (Cs : List (List ℕ)) (W : Work) → Indexed W.store → Indexed (each add Cs W).store
-adds_indexed [] W I = I
-adds_indexed (C ∷ Cs) W I = adds_indexed Cs (add C W) (add_indexed C W I)
+adds_indexed = each_along (λ W N. Indexed W.store → Indexed N.store) (stays_chains (λ W. Indexed W.store)) add add_indexed
 
 -- node 0's value stays
 add_zero : (C : List ℕ) (W : Work) → W.values 0 ≡ Some false → (add C W).values 0 ≡ Some false
@@ -85,8 +84,7 @@ add_zero C W z = go (simplified W.values C) refl
     go (Some S) e = stays S (λ l i. ((simplified_some W.values C S e).0 l i).1)
 
 pub adds_zero : (Cs : List (List ℕ)) (W : Work) → W.values 0 ≡ Some false → (each add Cs W).values 0 ≡ Some false
-adds_zero [] W z = z
-adds_zero (C ∷ Cs) W z = adds_zero Cs (add C W) (add_zero C W z)
+adds_zero = each_along (λ W N. W.values 0 ≡ Some false → N.values 0 ≡ Some false) (stays_chains (λ W. W.values 0 ≡ Some false)) add add_zero
 
 -- some clause at its owner is part of C
 abbrev pub Covered : Network → List ℕ → Type 0

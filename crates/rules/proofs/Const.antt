@@ -737,6 +737,3 @@ module _ (first : Network) (W : Work) (G : Good first W) where
     small = omega (arith, d.tops.0 ∙ p.tops.0, G.small);
     zero_value = zero_val;
   })
-
-  pub const_nodes : ((const_simplify W).top ≡ W.top) × ((const_simplify W).frozen ≡ W.frozen)
-  const_nodes = (ap (λ N. N.top) final_is ∙ d.tops.0 ∙ p.tops.0, ap (λ N. N.frozen) final_is ∙ d.tops.2 ∙ p.tops.2)

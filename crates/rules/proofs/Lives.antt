@@ -7,6 +7,7 @@ use Rattle.network.specs.Clauses.{last}
 use Rattle.rules.specs.Store.{Meaning, literals, sum_of, live_clauses, entered, removed, retired, shortened, swap_out, index_on, index_off, present, droppable, retire, shorten}
 use Rattle.rules.proofs.Places.{in_at, at_in, closed_length, retired_own, retired_apart, shortened_length}
 use Rattle.rules.proofs.Index.{removed_own, removed_apart, removed_length, swap_length, swap_here, swap_other, entered_own, entered_apart}
+use Rattle.rules.proofs.Along.{fewer_chains, allowed_along}
 use Rattle.rules.proofs.HowMany.{sum_apart, sum_less, sum_up, sum_le}
 use Rattle.rules.proofs.Facts.{le_same}
 
@@ -60,6 +61,6 @@ retire_fewer l i M = cond_both {A = Meaning × Bool} (present M l i) (retired l 
     (λ k. ⊎_elim (λ q. subst (λ g. length ((retired l i M).own g) ≤ length (M.own g)) (sym q) (omega (arith, ap length (retired_own M l i), closed_length (M.own l) i (ltb-true i (length (M.own l)) e)))) (λ a. omega (arith, ap length (retired_apart M l i k a))) (cases_eq k l)))
     (λ e. le_same (sum_of (map (λ k. length (M.own k)) literals)))
 
-pub shorten_same : (l i x : ℕ) (M : Meaning) → live_clauses (shorten l i x M).0 ≡ live_clauses M
+pub shorten_fewer : (l i x : ℕ) (M : Meaning) → live_clauses (shorten l i x M).0 ≤ live_clauses M
 unfolding shorten
-shorten_same l i x M = cond_both {A = Meaning × Bool} (droppable M l i x) (shortened l i x M, true) (M, false) (λ r. live_clauses r.0 ≡ live_clauses M) (λ e. shortened_live M l i x) (λ e. refl)
+shorten_fewer l i x M = allowed_along (λ M N. live_clauses N ≤ live_clauses M) (fewer_chains live_clauses) (droppable M l i x) M (shortened l i x M) (λ e. omega (arith, shortened_live M l i x))

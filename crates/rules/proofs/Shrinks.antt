@@ -16,6 +16,7 @@ use Rattle.rules.proofs.Places.{held_in}
 use Rattle.rules.proofs.Verdicts.{last_in}
 use Rattle.rules.proofs.TakenOut.{cost_zero, out_to}
 use Rattle.rules.proofs.Formed.{formed_parts, some_not_nil, without_shorter}
+use Rattle.rules.proofs.Along.{equal_chains, fewer_chains, clear_along, taken_out_along}
 use Rattle.rules.proofs.Lives.{removed_fewer, removed_part}
 use Rattle.rules.proofs.Counting.{Fine, taken_out_fewer}
 use Rattle.rules.proofs.Facts.{le_same, le_trans}
@@ -136,74 +137,22 @@ cost_live M L I v = sums (live_clauses (taken_out v all).store) (cost M v) (live
 
 -- ## Clearing
 
-abbrev pub Unmourned : Meaning → Meaning → Type 0
-Unmourned M N = N.dead_clauses ≡ M.dead_clauses
-
-cleared_dead : (f l i : ℕ) (marks : List Bool) (M : Meaning) → Unmourned M (cleared f l i marks M)
-unfolding cleared removed
-cleared_dead zero l i marks M = refl
-cleared_dead (suc f) l i marks M = cond_both (ltb i (length (M.own l))) _ M (Unmourned M)
-    (λ e. cond_both (get_or marks i false) (cleared f l i (swap_out false i marks) (removed l i M)) (cleared f l (suc i) marks M) (Unmourned M)
-    (λ t. cleared_dead f l i (swap_out false i marks) (removed l i M)) (λ t. cleared_dead f l (suc i) marks M))
-    (λ e. refl)
-
-cleared_fewer : (f l i : ℕ) (marks : List Bool) (M : Meaning) → live_clauses (cleared f l i marks M) ≤ live_clauses M
-unfolding cleared
-cleared_fewer zero l i marks M = le_same (live_clauses M)
-cleared_fewer (suc f) l i marks M = cond_both (ltb i (length (M.own l))) _ M (λ N. live_clauses N ≤ live_clauses M)
-    (λ e. cond_both (get_or marks i false) (cleared f l i (swap_out false i marks) (removed l i M)) (cleared f l (suc i) marks M) (λ N. live_clauses N ≤ live_clauses M)
-    (λ t. le_trans (live_clauses (cleared f l i (swap_out false i marks) (removed l i M))) (live_clauses (removed l i M)) (live_clauses M) (cleared_fewer f l i (swap_out false i marks) (removed l i M)) (removed_fewer M l i)) (λ t. cleared_fewer f l (suc i) marks M))
-    (λ e. le_same (live_clauses M))
-
-cleared_part : (f l i : ℕ) (marks : List Bool) (M : Meaning) (k : ℕ) (E : List ℕ) → In E ((cleared f l i marks M).own k) → In E (M.own k)
-unfolding cleared
-cleared_part zero l i marks M k E h = h
-cleared_part (suc f) l i marks M k E h = cond_both (ltb i (length (M.own l))) _ M (λ N. In E (N.own k) → In E (M.own k))
-    (λ e. cond_both (get_or marks i false) (cleared f l i (swap_out false i marks) (removed l i M)) (cleared f l (suc i) marks M) (λ N. In E (N.own k) → In E (M.own k))
-    (λ t j. removed_part M l i k E (cleared_part f l i (swap_out false i marks) (removed l i M) k E j)) (λ t j. cleared_part f l (suc i) marks M k E j))
-    (λ e j. j) h
+removed_dead : (l i : ℕ) (M : Meaning) → (removed l i M).dead_clauses ≡ M.dead_clauses
+unfolding removed
+removed_dead l i M = refl
 
 pub clear_part : (l : ℕ) (marks : List Bool) (M : Meaning) (k : ℕ) (E : List ℕ) → In E ((clear l marks M).own k) → In E (M.own k)
-unfolding clear
-clear_part l marks M k E h = cleared_part (length (M.own l)) l 0 _ M k E h
-
-cleared_room : (f l i : ℕ) (marks : List Bool) (M : Meaning) → (cleared f l i marks M).room ≡ M.room
-unfolding cleared removed
-cleared_room zero l i marks M = refl
-cleared_room (suc f) l i marks M = cond_both (ltb i (length (M.own l))) _ M (λ N. N.room ≡ M.room)
-    (λ e. cond_both (get_or marks i false) (cleared f l i (swap_out false i marks) (removed l i M)) (cleared f l (suc i) marks M) (λ N. N.room ≡ M.room)
-    (λ t. cleared_room f l i (swap_out false i marks) (removed l i M)) (λ t. cleared_room f l (suc i) marks M))
-    (λ e. refl)
+clear_part l marks M k E = clear_along (λ M N. In E (N.own k) → In E (M.own k)) (record { same = λ M h. h; next = λ M N P f g h. f (g h) }) (λ l i M h. removed_part M l i k E) l marks M
 
 pub clear_room : (l : ℕ) (marks : List Bool) (M : Meaning) → (clear l marks M).room ≡ M.room
-unfolding clear
-clear_room l marks M = cleared_room (length (M.own l)) l 0 _ M
+unfolding removed
+clear_room = clear_along (λ M N. N.room ≡ M.room) (equal_chains (λ M. M.room)) (λ l i M h. refl)
+
+pub removed_kept : (l i : ℕ) (M : Meaning) → i < length (M.own l) → kept_clauses (removed l i M) ≤ kept_clauses M
+removed_kept l i M h = omega (arith, removed_fewer M l i, removed_dead l i M)
 
 pub clear_kept : (l : ℕ) (marks : List Bool) (M : Meaning) → kept_clauses (clear l marks M) ≤ kept_clauses M
-unfolding clear
-clear_kept l marks M = sums (live_clauses N) (live_clauses M) N.dead_clauses M.dead_clauses (cleared_fewer (length (M.own l)) l 0 marks' M) (cleared_dead (length (M.own l)) l 0 marks' M)
-  where
-    marks' : List Bool
-    marks' = marks ++ replicate (length (M.own l) - length marks) false
+clear_kept = clear_along (λ M N. kept_clauses N ≤ kept_clauses M) (fewer_chains kept_clauses) removed_kept
 
-    N : Meaning
-    N = cleared (length (M.own l)) l 0 (marks ++ replicate (length (M.own l) - length marks) false) M
-
-    sums : (a b c d : ℕ) → a ≤ b → c ≡ d → a + c ≤ b + d
-    sums a b c d p q = omega arith
-
-pub clear_dead : (l : ℕ) (marks : List Bool) (M : Meaning) → Unmourned M (clear l marks M)
-unfolding clear
-clear_dead l marks M = cleared_dead (length (M.own l)) l 0 _ M
-
-clear_all_dead : (l : ℕ) (M : Meaning) → Unmourned M (clear_all l M)
-unfolding clear_all
-clear_all_dead l M = clear_dead l _ M
-
-sweep_dead : (n : ℕ) (ls : List ℕ) (M : Meaning) → Unmourned M (each (λ l M. clear l (use_marks M n l) M) ls M)
-sweep_dead n [] M = refl
-sweep_dead n (l ∷ ls) M = sweep_dead n ls (clear l (use_marks M n l) M) ∙ clear_dead l (use_marks M n l) M
-
-pub taken_out_dead : (n : ℕ) (W : Work) → Unmourned W.store (taken_out n W).store
-unfolding taken_out
-taken_out_dead n W = clear_all_dead (2 * n + 1) (clear_all (2 * n) (uses_cleared n W)) ∙ clear_all_dead (2 * n) (uses_cleared n W) ∙ sweep_dead n (literals_of W) W.store
+pub taken_out_dead : (n : ℕ) (W : Work) → (taken_out n W).store.dead_clauses ≡ W.store.dead_clauses
+taken_out_dead = taken_out_along (λ M N. N.dead_clauses ≡ M.dead_clauses) (equal_chains (λ M. M.dead_clauses)) (λ l i M h. removed_dead l i M)

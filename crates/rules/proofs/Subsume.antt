@@ -1,5 +1,6 @@
 -- subsume_simplify keeps what is kept. Assumes nothing.
 use Rattle.std.proofs.Common.{◌≡◌, ℕ, zero, suc, ◌+◌, ◌-◌, ◌<◌, ◌≤◌, true, cond, not, ◌&&◌, eqb, ltb, List, [], ◌∷◌, map, length, get_or, sym, refl, ap, ◌∙◌, subst, inl, inr, ⊎_elim, arith}
+use Rattle.std.proofs.lemmas.List.{get_or_past}
 use Rattle.std.proofs.lemmas.Bool.{cases_eq, cases_lt, cond_both, ltb-true}
 use Rattle.std.proofs.lemmas.Bool.Decides.{nat_tests}
 use Rattle.network.specs.Assignments.{Assignment, node, opposite, holds}
@@ -27,6 +28,7 @@ use Rattle.rules.proofs.Drops.{not_nil, swap_kept, pair_kept}
 use Rattle.rules.proofs.Answers.{retire_yes, shorten_yes, droppable_yes}
 use Rattle.rules.specs.Subsume as work
 use Rattle.rules.specs.Work.{Work, literals_of}
+use Rattle.rules.proofs.Along.{stays_chains, each_along}
 use Rattle.rules.proofs.Places as places
 
 after_same : (k j l i : ℕ) → k ≡ l → place_after k j l i ≡ cond (ltb j i) (i - 1) i
@@ -79,7 +81,7 @@ module _ (first : Network) (n : ℕ) (V : Values) (gone frozen : Assignment) whe
 
     some_D : (z : ℕ) → In z D → j < length (M.own k)
     unfolding D
-    some_D z h = ⊎_elim (λ m. m) (λ m. absurd (subst (In z) (places.at_past (M.own k) j [] m) h)) (cases_lt j (length (M.own k)))
+    some_D z h = ⊎_elim (λ m. m) (λ m. absurd (subst (In z) (get_or_past (M.own k) j [] m) h)) (cases_lt j (length (M.own k)))
 
     in_d : j < length (M.own k) → In D (held M (node k))
     unfolding D
@@ -293,7 +295,7 @@ module _ (first : Network) (n : ℕ) (V : Values) (gone frozen : Assignment) whe
     -- D past the end of its list is empty, and apart
     judged_here : Judged C D (verdict C D)
     unfolding D
-    judged_here = ⊎_elim (λ m. verdict_is C D oC (oD m)) (λ m. verdict_is C D oC (subst Ordered (sym (places.at_past (M.own k) j [] m)) tt)) (cases_lt j (length (M.own k)))
+    judged_here = ⊎_elim (λ m. verdict_is C D oC (oD m)) (λ m. verdict_is C D oC (subst Ordered (sym (get_or_past (M.own k) j [] m)) tt)) (cases_lt j (length (M.own k)))
 
   checked_kept : (f l i : ℕ) (Rs : List Ref) (M : Meaning) → Both M → i < length (M.own l) → Both (checked_from f l i Rs M).0
   unfolding checked_from C D
@@ -340,8 +342,7 @@ module _ (first : Network) (n : ℕ) (V : Values) (gone frozen : Assignment) whe
       (λ e c h. absurd h)
 
   walks_kept : (ls : List ℕ) (M : Meaning) → Both M → Both (each walk ls M)
-  walks_kept [] M K = K
-  walks_kept (l ∷ ls) M K = walks_kept ls (walk l M) (walked_kept (length (M.own l)) l 0 M K)
+  walks_kept = each_along (λ M N. Both M → Both N) (stays_chains Both) walk (λ l M. walked_kept (length (M.own l)) l 0 M)
 
   walks_granted : (ls : List ℕ) (M : Meaning) → Both M → AllGranted (all_checks ls M)
   unfolding all_checks

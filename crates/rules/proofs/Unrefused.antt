@@ -24,9 +24,10 @@ use Rattle.rules.proofs.Drops.{not_nil}
 use Rattle.rules.proofs.Formed.{formed_parts, parts_formed, not_nil_some, some_not_nil}
 use Rattle.rules.proofs.TakenOut.{swept_none}
 use Rattle.rules.proofs.HowMany.{sum_apart, sum_part}
+use Rattle.rules.proofs.Along.{fewer_chains, each_along, both_along}
 use Rattle.rules.proofs.Passes.{index_on_keeps, taken_out_keeps, attempt_keeps}
 use Rattle.rules.proofs.Bve.{GoodIndexed, attempt_good, index_good, eliminated_any}
-use Rattle.rules.proofs.Shrinks.{lemmas_length, lemmas_short, taken_out_less, taken_out_dead, clear_part, clear_kept, clear_room}
+use Rattle.rules.proofs.Shrinks.{lemmas_length, lemmas_short, taken_out_less, taken_out_dead, clear_part, clear_kept, clear_room, removed_kept}
 use Rattle.rules.proofs.Accepted.{AllFormed, AllShort, adds_accepted, adds_short, judged_accepted, judged_short, judged_kept, adds_live}
 use Rattle.rules.proofs.Const as const
 use Rattle.rules.proofs.Facts.{le_same, le_trans}
@@ -173,16 +174,15 @@ module _ (first : Network) (n : ℕ) (gone frozen : Assignment) (small : n ≤ 1
 
 -- valued nodes lose clauses
 drop_kept : (n : ℕ) (W : Work) → kept_clauses (const_drop n W).store ≤ kept_clauses W.store
-unfolding const_drop clear_all
+unfolding const_drop
 drop_kept n W = go (W.values n)
   where
     go : (o : Option Bool) → kept_clauses (if_known o (storing W (clear_all (2 * n + 1) (clear_all (2 * n) W.store))) W).store ≤ kept_clauses W.store
     go None = le_same (kept_clauses W.store)
-    go (Some b) = le_trans (kept_clauses (clear_all (2 * n + 1) (clear_all (2 * n) W.store))) (kept_clauses (clear_all (2 * n) W.store)) (kept_clauses W.store) (clear_kept (2 * n + 1) _ (clear_all (2 * n) W.store)) (clear_kept (2 * n) _ W.store)
+    go (Some b) = both_along (λ M N. kept_clauses N ≤ kept_clauses M) (fewer_chains kept_clauses) removed_kept n W.store
 
 drops_kept : (ns : List ℕ) (W : Work) → kept_clauses (each const_drop ns W).store ≤ kept_clauses W.store
-drops_kept [] W = le_same (kept_clauses W.store)
-drops_kept (n ∷ ns) W = le_trans (kept_clauses (each const_drop ns (const_drop n W)).store) (kept_clauses (const_drop n W).store) (kept_clauses W.store) (drops_kept ns (const_drop n W)) (drop_kept n W)
+drops_kept = each_along (λ W N. kept_clauses N.store ≤ kept_clauses W.store) (fewer_chains (λ W. kept_clauses W.store)) const_drop drop_kept
 
 -- the clauses of nodes, by literals
 pub pairs : (f : ℕ → ℕ) (t i : ℕ) → sum_of (map (λ k. f (2 * k) + f (2 * k + 1)) (from i t)) ≡ sum_of (map f (from (2 * i) (2 * t)))
