@@ -13,7 +13,7 @@ use Rattle.rules.proofs.Plain as plain
 use Rattle.rules.proofs.Answers.{enter_yes}
 use Rattle.rules.proofs.Index.{entered_own, entered_apart}
 use Rattle.rules.proofs.Simplified.{simplified_some}
-use Rattle.rules.proofs.Lives.{entered_live}
+use Rattle.rules.proofs.Lives.{entered_live, entered_kept}
 use Rattle.rules.proofs.Const.{NoLonger, no_longer}
 
 -- every clause is well formed
@@ -46,12 +46,6 @@ entered_short S M s h l C i = ⊎_elim
     (λ e. ⊎_elim (h (last S) C) (λ j. omega (arith, ap length (⊎_elim (λ q. q) absurd j), s)) (in_cases C (M.own (last S)) (S ∷ []) (subst (In C) (entered_own M S) (subst (λ g. In C ((entered S M).own g)) e i))))
     (λ a. h l C (subst (In C) (entered_apart M S l a) i)) (cases_eq l (last S))
 
-entered_kept : (S : List ℕ) (M : Meaning) → kept_clauses (entered S M) ≤ suc (kept_clauses M)
-entered_kept S M = sums (live_clauses (entered S M)) (live_clauses M) (entered S M).dead_clauses M.dead_clauses (entered_live S M) (unfold entered in refl)
-  where
-    sums : (a b c d : ℕ) → a ≤ suc b → c ≡ d → a + c ≤ suc (b + d)
-    sums a b c d p q = omega arith
-
 -- a clause entered without a test
 module _ (C : List ℕ) (W : Work) where
   add_grows : Grows W.store (plain.add C W).store
@@ -78,11 +72,8 @@ module _ (C : List ℕ) (W : Work) where
   unfolding plain.add
   add_kept = go (simplified W.values C)
     where
-      same : (a : ℕ) → a ≤ suc a
-      same a = omega arith
-
       go : (o : Option (List ℕ)) → kept_clauses (plain.add_simplified o W).store ≤ suc (kept_clauses W.store)
-      go None = same (kept_clauses W.store)
+      go None = omega arith
       go (Some S) = entered_kept S W.store
 
   add_live : live_clauses (plain.add C W).store ≤ suc (live_clauses W.store)
@@ -137,29 +128,17 @@ adds_short [] W s h = h
 adds_short (C ∷ Cs) W s h = adds_short Cs (plain.add C W) (λ D i. s D (inr i)) (add_short C W (s C (inl refl)) h)
 
 pub adds_live : (Cs : List (List ℕ)) (W : Work) → live_clauses (each plain.add Cs W).store ≤ live_clauses W.store + length Cs
-adds_live [] W = le_zero (live_clauses W.store)
-  where
-    le_zero : (a : ℕ) → a ≤ a + 0
-    le_zero a = omega arith
-adds_live (C ∷ Cs) W = le_then (live_clauses (each plain.add Cs (plain.add C W)).store) (live_clauses (plain.add C W).store) (live_clauses W.store) (length Cs) (adds_live Cs (plain.add C W)) (add_live C W)
-  where
-    le_then : (a b c n : ℕ) → a ≤ b + n → b ≤ suc c → a ≤ c + suc n
-    le_then a b c n p q = omega arith
-
-suc_less : (k n r : ℕ) → k + suc n ≤ r → k < r
-suc_less k n r h = omega arith
-
-next_less : (k j n r q : ℕ) → k + suc n ≤ r → j ≤ suc k → q ≡ r → j + n ≤ q
-next_less k j n r q h a e = omega arith
+adds_live [] W = omega arith
+adds_live (C ∷ Cs) W = omega (arith, adds_live Cs (plain.add C W), add_live C W)
 
 pub adds_accepted : (Cs : List (List ℕ)) (W : Work) → AllFormed (each plain.add Cs W).store → kept_clauses W.store + length Cs ≤ W.store.room
     → (each add Cs W ≡ each plain.add Cs W) × AllAccepted (entries Cs W)
 unfolding entries
 adds_accepted [] W f r = (refl, λ e i. absurd i)
 adds_accepted (C ∷ Cs) W f r =
-    let a : Accepts C W = accepts_in C W (each plain.add Cs (plain.add C W)).store (adds_grow Cs (plain.add C W)) f (suc_less (kept_clauses W.store) (length Cs) W.store.room r) in
+    let a : Accepts C W = accepts_in C W (each plain.add Cs (plain.add C W)).store (adds_grow Cs (plain.add C W)) f (omega (arith, r)) in
     let p = add_agrees C W a in
-    let (q, s) = adds_accepted Cs (plain.add C W) f (next_less (kept_clauses W.store) (kept_clauses (plain.add C W).store) (length Cs) W.store.room (plain.add C W).store.room r (add_kept C W) (add_room C W)) in (
+    let (q, s) = adds_accepted Cs (plain.add C W) f (omega (arith, r, add_kept C W, add_room C W)) in (
       ap (each add Cs) p ∙ q,
       λ e i. ⊎_elim (λ w. subst (λ d. (S : List ℕ) → simplified d.before.values d.clause ≡ Some S → Accepted d.before S) (sym w) a)
           (λ j. s e (subst (λ U. In e (entries Cs U)) p j)) i,
@@ -213,18 +192,9 @@ judged_kept [] W = (unfold plain.judged in (same (kept_clauses W.store)), unfold
     same : (a : ℕ) → a ≤ a + 0
     same a = omega arith
 judged_kept (C ∷ Cs) W = judged_cases Cs W (λ r. (kept_clauses r.1.store ≤ kept_clauses W.store + length (C ∷ Cs)) × (r.1.store.room ≡ W.store.room)) C (λ b r p. p)
-    (let (a, b) = judged_kept Cs W in (one (kept_clauses (plain.judged Cs W).1.store) (kept_clauses W.store) (length Cs) a, b))
+    (let (a, b) = judged_kept Cs W in (omega (arith, a), b))
     (λ S e. let (a, b) = judged_kept Cs (plain.add S W) in
-    (two (kept_clauses (plain.judged Cs (plain.add S W)).1.store) (kept_clauses (plain.add S W).store) (kept_clauses W.store) (length Cs) a (add_kept S W), b ∙ add_room S W))
-  where
-    one : (a b n : ℕ) → a ≤ b + n → a ≤ b + suc n
-    one a b n p = omega arith
-
-    two : (a c b n : ℕ) → a ≤ c + n → c ≤ suc b → a ≤ b + suc n
-    two a c b n p q = omega arith
-
-less_one : (k n r : ℕ) → k + suc n ≤ r → k + n ≤ r
-less_one k n r h = omega arith
+    (omega (arith, a, add_kept S W), b ∙ add_room S W))
 
 pub judged_accepted : (Cs : List (List ℕ)) (W : Work) → AllFormed (plain.judged Cs W).1.store → kept_clauses W.store + length Cs ≤ W.store.room
     → (judged Cs W ≡ plain.judged Cs W) × AllAccepted (judged_entries Cs W)
@@ -232,8 +202,8 @@ unfolding judged plain.judged judged_entries
 judged_accepted [] W f r = (refl, λ e i. absurd i)
 judged_accepted (C ∷ Cs) W f r =
     go (fate W.values C) f
-    (λ g. judged_accepted Cs W g (less_one (kept_clauses W.store) (length Cs) W.store.room r))
-    (λ S g. judged_accepted Cs (plain.add S W) g (next_less (kept_clauses W.store) (kept_clauses (plain.add S W).store) (length Cs) W.store.room (plain.add S W).store.room r (add_kept S W) (add_room S W)))
+    (λ g. judged_accepted Cs W g (omega (arith, r)))
+    (λ S g. judged_accepted Cs (plain.add S W) g (omega (arith, r, add_kept S W, add_room S W)))
   where
     go : (x : Fate) → AllFormed (plain.judged_by x W (λ w. plain.judged Cs w)).1.store
         → (AllFormed (plain.judged Cs W).1.store → (judged Cs W ≡ plain.judged Cs W) × AllAccepted (judged_entries Cs W))
@@ -242,7 +212,7 @@ judged_accepted (C ∷ Cs) W f r =
     go goes g a b = let (q, s) = a g in (ap (marking true) q, s)
     go stays g a b = let (q, s) = a g in (ap (marking false) q, s)
     go (shrinks S) g a b =
-        let c : Accepts S W = accepts_in S W (plain.judged Cs (plain.add S W)).1.store (judged_grows Cs (plain.add S W)) g (suc_less (kept_clauses W.store) (length Cs) W.store.room r) in
+        let c : Accepts S W = accepts_in S W (plain.judged Cs (plain.add S W)).1.store (judged_grows Cs (plain.add S W)) g (omega (arith, r)) in
         let p = add_agrees S W c in
         let (q, s) = b S g in (
           ap (λ U. marking false (judged Cs U)) p ∙ ap (marking false) q,

@@ -59,11 +59,8 @@ pub sizes_small : SizesSmall
 sizes_small = record {
   counts = counts_small;
   costs = λ W L t i. let m = bve_met W L t i in cost_live t.before.store m.lawful m.index t.at;
-  lives = λ W L t i. let m = bve_met W L t i in sums (live_clauses t.before.store) t.before.store.dead_clauses t.before.store.room W.store.room m.lawful.within m.room;
+  lives = λ W L t i. let m = bve_met W L t i in omega (arith, m.lawful.within, m.room);
   few = λ W n e. (kept_few W n (not-true (given_up W n (all_resolvents W.store n)) (and_parts (not (passed_over W n)) (not (given_up W n (all_resolvents W.store n))) e).1)).1;
   subsumed = subsume_fewer;
   words = words_few;
 }
-  where
-    sums : (a d r q : ℕ) → a + d ≤ r → r ≡ q → a ≤ q
-    sums a d r q p e = omega arith

@@ -40,9 +40,6 @@ removed_fine M l i F li = record {
   bound = λ k E h. F.bound k E (removed_part M l i k E h);
 }
 
-one_less : (a b x y : ℕ) → suc b ≡ a → x ≤ suc y → b + x ≤ a + y
-one_less a b x y p q = omega arith
-
 module _ (v : ℕ) where
   abbrev pub Less : Meaning → Meaning → Type 0
   Less M N = live_clauses N + cost M v ≤ live_clauses M + cost N v
@@ -105,7 +102,7 @@ module _ (v : ℕ) where
             (λ h. ⊎_elim (λ b. omega (arith, b, F.once (2 * v) l i, u, w, d, f)) (λ k. absurd (not_both h k)) (named_in (2 * v + 1))) (named_in (2 * v))
 
     removed_less : Less M (removed l i M)
-    removed_less = one_less (live_clauses M) (live_clauses (removed l i M)) (cost M v) (cost (removed l i M) v) (removed_live M l i (F.bound l C in_c) li) cost_less
+    removed_less = omega (arith, removed_live M l i (F.bound l C in_c) li, cost_less)
 
   -- clearing
   abbrev Fewer : Meaning → Meaning → Type 0

@@ -13,7 +13,7 @@ use Rattle.rules.proofs.Places.{in_at, closed_in, closed_length, set_in, retired
 use Rattle.rules.proofs.Index.{live_lit, live_place, live_dead, at_is, moved_here, moved_not, removed_apart, removed_length, entered_own, entered_apart, old_stays, places_named, places_live, in_up_to}
 use Rattle.rules.proofs.HowMany.{count_either, count_more, count_kept, count_map, count_none, count_append, count_one, sum_part}
 use Rattle.rules.proofs.Once.{is_at_of, removed_once, index_once}
-use Rattle.rules.proofs.Lives.{entered_live, removed_live, removed_part, retired_live, shortened_live}
+use Rattle.rules.proofs.Lives.{entered_kept, removed_live, removed_part, retired_live, shortened_live}
 use Rattle.rules.proofs.Formed.{Formed, formed_parts, parts_formed, front_below, front_dropped}
 
 nil_is : {X : Type 0} (xs : List X) → ((x : X) → In x xs → ⊥) → xs ≡ []
@@ -97,11 +97,7 @@ module _ (C : List ℕ) (M : Meaning) (L : Lawful M) (ok : enterable M C ≡ tru
   entered_bounded x b = use_cases x (λ rs. rs ≡ []) (λ e. absurd (omega (arith, front_below C fC.order x (has_in x (front C) e), fC.small))) (L.bounded x b)
 
   entered_within : kept_clauses (entered C M) ≤ M.room
-  entered_within = sums (live_clauses (entered C M)) (live_clauses M) (entered C M).dead_clauses M.dead_clauses M.room (entered_live C M) (unfold entered in refl)
-      (ltb-true (kept_clauses M) M.room (and_parts (well_formed C) (ltb (kept_clauses M) M.room) ok).1)
-    where
-      sums : (a b c d r : ℕ) → a ≤ suc b → c ≡ d → b + d < r → a + c ≤ r
-      sums a b c d r p q s = omega arith
+  entered_within = omega (arith, entered_kept C M, ltb-true (kept_clauses M) M.room (and_parts (well_formed C) (ltb (kept_clauses M) M.room) ok).1)
 
   pub entered_lawful : Lawful (entered C M)
   entered_lawful = record {
@@ -433,10 +429,7 @@ none_live (suc n) i = omega (arith, none_live n (suc i))
 
 pub emptied_none : (M : Meaning) → kept_clauses (emptied M) ≡ 0
 unfolding live_clauses
-emptied_none M = sums (sum_of (map (λ (l : ℕ). length {A = List ℕ} []) (from 0 2048))) (none_live 2048 0)
-  where
-    sums : (a : ℕ) → a ≡ 0 → a + 0 ≡ 0
-    sums a e = omega arith
+emptied_none M = omega (arith, none_live 2048 0)
 
 pub emptied_lawful : (M : Meaning) → Lawful (emptied M)
 emptied_lawful M = record {
@@ -446,9 +439,6 @@ emptied_lawful M = record {
   named = λ x l i h. absurd h;
   once = λ x l i. unfold how_many in (omega arith);
   mourned = λ x. unfold how_many in (omega arith);
-  within = sums (kept_clauses (emptied M)) M.room (emptied_none M);
+  within = omega (arith, emptied_none M);
   unindexed = λ e. ((λ x. refl), refl);
 }
-  where
-    sums : (a r : ℕ) → a ≡ 0 → a ≤ r
-    sums a r e = omega arith

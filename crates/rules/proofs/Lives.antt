@@ -4,7 +4,7 @@ use Rattle.std.proofs.lemmas.Bool.{cases_eq, cond_both, ltb-true}
 use Rattle.std.proofs.lemmas.List.{length-append}
 use Rattle.network.specs.Lists.{In}
 use Rattle.network.specs.Clauses.{last}
-use Rattle.rules.specs.Store.{Meaning, literals, sum_of, live_clauses, entered, removed, retired, shortened, swap_out, index_on, index_off, present, droppable, retire, shorten}
+use Rattle.rules.specs.Store.{Meaning, literals, sum_of, live_clauses, kept_clauses, entered, removed, retired, shortened, swap_out, index_on, index_off, present, droppable, retire, shorten}
 use Rattle.rules.proofs.Places.{in_at, at_in, closed_length, retired_own, retired_apart, shortened_length}
 use Rattle.rules.proofs.Index.{removed_own, removed_apart, removed_length, swap_length, swap_here, swap_other, entered_own, entered_apart}
 use Rattle.rules.proofs.Along.{fewer_chains, allowed_along}
@@ -15,6 +15,9 @@ pub entered_live : (C : List ℕ) (M : Meaning) → live_clauses (entered C M) �
 unfolding live_clauses
 entered_live C M = sum_up (λ k. length ((entered C M).own k)) (λ k. length (M.own k)) (last C) 2048 0
     (omega (arith, ap length (entered_own M C), length-append (M.own (last C)) (C ∷ []))) (λ k a. ap length (entered_apart M C k a))
+
+pub entered_kept : (C : List ℕ) (M : Meaning) → kept_clauses (entered C M) ≤ suc (kept_clauses M)
+entered_kept C M = let d : (entered C M).dead_clauses ≡ M.dead_clauses = unfold entered in refl in omega (arith, entered_live C M)
 
 pub removed_live : (M : Meaning) (l i : ℕ) → l < 2048 → i < length (M.own l) → suc (live_clauses (removed l i M)) ≡ live_clauses M
 unfolding live_clauses

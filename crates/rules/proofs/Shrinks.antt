@@ -119,21 +119,13 @@ module _ (v : ℕ) (W : Work) (L : Lawful W.store) (I : Indexed W.store) (bound 
 
   -- a clause removed for each that the node costs
   pub taken_out_less : live_clauses (taken_out v W).store + cost W.store v ≤ live_clauses W.store
-  taken_out_less = sums (live_clauses (taken_out v W).store) (cost W.store v) (live_clauses W.store) (cost (taken_out v W).store v) (taken_out_fewer v W F).1
-      (let N = (taken_out_fewer v W F).0 in cost_zero v (taken_out v W).store N.index N.placed N.filled (λ l C i. (out_to v W I F.placed F.filled bound (node l) C (held_in (taken_out v W).store l C i)).1))
-    where
-      sums : (a b c d : ℕ) → a + b ≤ c + d → d ≡ 0 → a + b ≤ c
-      sums a b c d p q = omega arith
-
+  taken_out_less = omega (arith, (taken_out_fewer v W F).1, let N = (taken_out_fewer v W F).0 in cost_zero v (taken_out v W).store N.index N.placed N.filled (λ l C i. (out_to v W I F.placed F.filled bound (node l) C (held_in (taken_out v W).store l C i)).1))
 -- a node costs no more than there are live clauses
 pub cost_live : (M : Meaning) → Lawful M → Indexed M → (v : ℕ) → cost M v ≤ live_clauses M
-cost_live M L I v = sums (live_clauses (taken_out v all).store) (cost M v) (live_clauses M) (taken_out_less v all L I (λ l E i. omega (arith, (formed_parts E (L.formed l E i)).small, L.placed l E i)))
+cost_live M L I v = omega (arith, taken_out_less v all L I (λ l E i. omega (arith, (formed_parts E (L.formed l E i)).small, L.placed l E i)))
   where
     all : Work
     all = record { top = 1023; frozen = λ _. false; store = M; values = nothing; out = [] }
-
-    sums : (a b c : ℕ) → a + b ≤ c → b ≤ c
-    sums a b c p = omega arith
 
 -- ## Clearing
 

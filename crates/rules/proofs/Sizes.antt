@@ -60,12 +60,7 @@ module _ (W : Work) (L : Lawful W.store) where
 
   runs_few : (t i : ℕ) → length (flat_map (λ r. r) (map (λ n. written (handed_out W n)) (from i t))) ≤ 33 * sum_of (map (λ n. length (own_of W (2 * n)) + length (own_of W (2 * n + 1))) (from i t)) + 2 * t
   runs_few zero i = omega arith
-  runs_few (suc t) i = sums (length (written (handed_out W i) ++ flat_map (λ r. r) (map (λ n. written (handed_out W n)) (from (suc i) t)))) (length (written (handed_out W i))) (length (flat_map (λ r. r) (map (λ n. written (handed_out W n)) (from (suc i) t))))
-      (length (own_of W (2 * i)) + length (own_of W (2 * i + 1))) (sum_of (map (λ n. length (own_of W (2 * n)) + length (own_of W (2 * n + 1))) (from (suc i) t))) t
-      (length-append (written (handed_out W i)) (flat_map (λ r. r) (map (λ n. written (handed_out W n)) (from (suc i) t)))) (run_few i) (runs_few t (suc i))
-    where
-      sums : (a b c d e t : ℕ) → a ≡ b + c → b ≤ 33 * d + 2 → c ≤ 33 * e + 2 * t → a ≤ 33 * (d + e) + 2 * suc t
-      sums a b c d e t p q r = omega arith
+  runs_few (suc t) i = omega (arith, length-append (written (handed_out W i)) (flat_map (λ r. r) (map (λ n. written (handed_out W n)) (from (suc i) t))), run_few i, runs_few t (suc i))
 
 pub words_few : (W : Work) → Lawful W.store → W.top ≤ 1023 → length (words_out W) ≤ 3 * W.top + 3 + 33 * live_clauses W.store
 unfolding live_clauses

@@ -252,14 +252,7 @@ module _ (ws : List ℕ) (I : Image ws) (fs : List Bool) (z : get_or fs 0 false 
     total_is : (k : ℕ) → length (flat_map (taken_in ws) (from 1 k)) ≡ total ws k
     total_is zero = refl
     total_is (suc k) = ap (λ xs. length (flat_map (taken_in ws) xs)) (from_more k 1) ∙ gather_length (taken_in ws) (from 1 k) ((1 + k) ∷ [])
-        ∙ one (length (flat_map (taken_in ws) (from 1 k))) (total ws k) (length (taken_in ws (1 + k) ++ [])) (length (clauses (run ws (suc k)))) (total_is k)
-        (length-append (taken_in ws (1 + k)) [] ∙ zero_more (length (taken_in ws (1 + k))) ∙ ap (λ j. length (taken_in ws j)) {x = 1 + k} {y = suc k} (omega arith))
-      where
-        one : (a b c d : ℕ) → a ≡ b → c ≡ d → a + c ≡ b + d
-        one a b c d p q = omega arith
-
-        zero_more : (a : ℕ) → a + length {A = List ℕ} [] ≡ a
-        zero_more a = omega arith
+        ∙ (omega (arith, total_is k, length-append (taken_in ws (1 + k)) [] ∙ (omega arith) ∙ ap (λ j. length (taken_in ws j)) {x = 1 + k} {y = suc k} (omega arith)))
 
     entered_count : length (clauses_in ws) ≡ suc (total ws (top ws))
     unfolding clauses_in
@@ -272,10 +265,7 @@ module _ (ws : List ℕ) (I : Image ws) (fs : List Bool) (z : get_or fs 0 false 
       accepted : (each tested_work.add (clauses_in ws) (begun ws fs M) ≡ each add (clauses_in ws) (begun ws fs M)) × AllAccepted (entries (clauses_in ws) (begun ws fs M))
       accepted = adds_accepted (clauses_in ws) (begun ws fs M)
           (good_formed first (each add (clauses_in ws) (begun ws fs M)) plain_good (adds_short (clauses_in ws) (begun ws fs M) (λ C i. let (k, j) = clauses_at C i in clause_short k C j) (λ l C i. absurd i)))
-          (room (kept_clauses (begun ws fs M).store) (length (clauses_in ws)) (total ws (top ws)) M.room none_live entered_count enough)
-        where
-          room : (a b c r : ℕ) → a ≡ 0 → b ≡ suc c → suc c ≤ r / 2 → a + b ≤ r
-          room a b c r p q s = omega arith
+          (omega (arith, none_live, entered_count, enough))
 
       pub start_good : Good first (started ws fs M)
       unfolding started
@@ -291,13 +281,7 @@ module _ (ws : List ℕ) (I : Image ws) (fs : List Bool) (z : get_or fs 0 false 
       pub start_live : live_clauses (started ws fs M).store ≤ M.room / 2
       unfolding started
       start_live = subst (λ W. live_clauses W.store ≤ M.room / 2) (sym accepted.0)
-          (room (live_clauses (each add (clauses_in ws) (begun ws fs M)).store) (live_clauses (begun ws fs M).store) (length (clauses_in ws)) (total ws (top ws)) (M.room / 2) (adds_live (clauses_in ws) (begun ws fs M)) (part (live_clauses (begun ws fs M).store) none_live) entered_count enough)
-        where
-          part : (a : ℕ) → a + 0 ≡ 0 → a ≡ 0
-          part a e = omega arith
-
-          room : (d a b c h : ℕ) → d ≤ a + b → a ≡ 0 → b ≡ suc c → suc c ≤ h → d ≤ h
-          room d a b c h p q s t = omega arith
+          (omega (arith, adds_live (clauses_in ws) (begun ws fs M), none_live, entered_count, enough))
 
       pub start_nodes : ((started ws fs M).top ≡ top ws) × ((started ws fs M).frozen ≡ (λ n. get_or fs n false))
       unfolding started

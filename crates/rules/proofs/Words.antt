@@ -91,11 +91,7 @@ module _ (W : Work) where
 
   words_length : length ws ≡ W.top + 3 + before W.top Rs
   unfolding words_out
-  words_length = sums (length (ends (W.top + 3) Rs ++ flat_map (λ r. r) Rs)) (length (ends (W.top + 3) Rs)) (length (flat_map (λ r. r) Rs)) W.top (before W.top Rs)
-      (length-append (ends (W.top + 3) Rs) (flat_map (λ r. r) Rs)) (ends_length Rs (W.top + 3) ∙ runs_length) (sym (before_all Rs) ∙ ap (λ n. before n Rs) runs_length)
-    where
-      sums : (a b c t d : ℕ) → a ≡ b + c → b ≡ t → c ≡ d → suc (suc (suc a)) ≡ t + 3 + d
-      sums a b c t d p q r = omega arith
+  words_length = omega (arith, length-append (ends (W.top + 3) Rs) (flat_map (λ r. r) Rs), ends_length Rs (W.top + 3) ∙ runs_length, sym (before_all Rs) ∙ ap (λ n. before n Rs) runs_length)
 
   pub words_count : length (words_out W) ≡ W.top + 3 + length (flat_map (λ r. r) (runs_out W))
   words_count = words_length ∙ ap (λ n. W.top + 3 + n) (ap (λ n. before n Rs) (sym runs_length) ∙ before_all Rs)
@@ -119,22 +115,12 @@ module _ (W : Work) where
   total_read : (k : ℕ) → k ≤ W.top → total ws k ≡ sum_of (map (λ n. length (handed_out W n)) (from 1 k))
   total_read zero l = refl
   total_read (suc k) l =
-      one (total ws k) (sum_of (map (λ n. length (handed_out W n)) (from 1 k))) (length (clauses (run ws (suc k)))) (length (handed_out W (suc k))) (total_read k (omega arith)) (ap length (clauses_read k l))
+      omega (arith, total_read k (omega arith), ap length (clauses_read k l))
       ∙ sym (sum_more k 1 ∙ ap (λ m. sum_of (map (λ n. length (handed_out W n)) (from 1 k)) + length (handed_out W m)) {x = 1 + k} {y = suc k} (omega arith))
     where
-      one : (a b c d : ℕ) → a ≡ b → c ≡ d → a + c ≡ b + d
-      one a b c d p q = omega arith
-
       sum_more : (t i : ℕ) → sum_of (map (λ n. length (handed_out W n)) (from i (suc t))) ≡ sum_of (map (λ n. length (handed_out W n)) (from i t)) + length (handed_out W (i + t))
-      sum_more zero i = next (length (handed_out W i)) (length (handed_out W (i + 0))) (ap (λ n. length (handed_out W n)) (omega arith))
-        where
-          next : (a b : ℕ) → a ≡ b → a + 0 ≡ 0 + b
-          next a b p = omega arith
-      sum_more (suc t) i = last_one (length (handed_out W i)) _ _ _ _ (sum_more t (suc i)) (ap (λ n. length (handed_out W n)) {x = suc i + t} {y = i + suc t} (omega arith))
-        where
-          last_one : (a b c d e : ℕ) → b ≡ c + d → d ≡ e → a + b ≡ a + c + e
-          last_one a b c d e p q = omega arith
-
+      sum_more zero i = omega (arith, ap (λ n. length (handed_out W n)) {x = i} {y = i + 0} (omega arith))
+      sum_more (suc t) i = omega (arith, sum_more t (suc i), ap (λ n. length (handed_out W n)) {x = suc i + t} {y = i + suc t} (omega arith))
   module _ (small : W.top ≤ 1023) (zero_out : handed_out W 0 ≡ (1 ∷ []) ∷ []) where
     network_read : (n : ℕ) → n ≤ W.top → taken_in ws n ≡ handed_out W n
     network_read zero l = sym zero_out

@@ -33,17 +33,12 @@ marks_few W L t i l =
     let m = const_met W L t i in
     subst (λ r. length (own_of t.before l) ≤ r) m.1 (own_few t.before.store m.0 l)
 
-both : (a b c : ℕ) → a ≤ b → b ≤ c → a ≤ c
-both a b c p q = omega arith
-
 pub words_suffice : WordsSuffice
 words_suffice = record {
   const = λ W. omega arith;
   bve = λ W. omega arith;
   marks = marks_few;
-  resolvents = λ W L t i e. both (length (all_resolvents t.before.store t.at)) (live_clauses t.before.store) W.store.room
-      (both (length (all_resolvents t.before.store t.at)) (cost t.before.store t.at) (live_clauses t.before.store) (sizes_small.few t.before t.at e) (sizes_small.costs W L t i))
-      (sizes_small.lives W L t i);
+  resolvents = λ W L t i e. omega (arith, sizes_small.few t.before t.at e, sizes_small.costs W L t i, sizes_small.lives W L t i);
   short = λ W n e. (kept_few W n (not-true (given_up W n (all_resolvents W.store n)) (and_parts (not (passed_over W n)) (not (given_up W n (all_resolvents W.store n))) e).1)).0;
-  costs = λ W L t i. both (cost t.before.store t.at) (live_clauses t.before.store) W.store.room (sizes_small.costs W L t i) (sizes_small.lives W L t i);
+  costs = λ W L t i. omega (arith, sizes_small.costs W L t i, sizes_small.lives W L t i);
 }
