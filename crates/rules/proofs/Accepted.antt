@@ -80,11 +80,8 @@ module _ (C : List ℕ) (W : Work) where
   unfolding plain.add
   add_live = go (simplified W.values C)
     where
-      same : (a : ℕ) → a ≤ suc a
-      same a = omega arith
-
       go : (o : Option (List ℕ)) → live_clauses (plain.add_simplified o W).store ≤ suc (live_clauses W.store)
-      go None = same (live_clauses W.store)
+      go None = omega arith
       go (Some S) = entered_live S W.store
 
   add_room : (plain.add C W).store.room ≡ W.store.room

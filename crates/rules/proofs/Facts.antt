@@ -2,12 +2,6 @@
 use Rattle.std.proofs.Common.{◌≡◌, ℕ, ◌≤◌, List, [], ◌∷◌, length, Some, None, Option, refl, inl, arith}
 use Rattle.network.specs.Lists.{In}
 
-pub le_same : (a : ℕ) → a ≤ a
-le_same a = omega arith
-
-pub le_trans : (a b c : ℕ) → a ≤ b → b ≤ c → a ≤ c
-le_trans a b c p q = omega arith
-
 pub some_none : {X : Type 0} (x : X) → ◌≡◌ {A = Option X} (Some x) None → ⊥
 some_none x e = cc
 

@@ -13,7 +13,7 @@ use Rattle.rules.proofs.Places.{in_at, closed_in, closed_length, set_in, retired
 use Rattle.rules.proofs.Index.{live_lit, live_place, live_dead, at_is, moved_here, moved_not, removed_apart, removed_length, entered_own, entered_apart, old_stays, places_named, places_live, in_up_to}
 use Rattle.rules.proofs.HowMany.{count_either, count_more, count_kept, count_map, count_none, count_append, count_one, sum_part}
 use Rattle.rules.proofs.Once.{is_at_of, removed_once, index_once}
-use Rattle.rules.proofs.Lives.{entered_kept, removed_live, removed_part, retired_live, shortened_live}
+use Rattle.rules.proofs.Lives.{entered_kept, removed_kept, removed_part, retired_live, shortened_live}
 use Rattle.rules.proofs.Formed.{Formed, formed_parts, parts_formed, front_below, front_dropped}
 
 nil_is : {X : Type 0} (xs : List X) → ((x : X) → In x xs → ⊥) → xs ≡ []
@@ -174,11 +174,7 @@ module _ (l i : ℕ) (M : Meaning) (L : Lawful M) (li : i < length (M.own l)) wh
   none_left x e = ap (λ rs. map (moved_ref l (length (M.own l) - 1) i) (filter (λ r. not (is_at l i r)) rs)) e
 
   removed_within : kept_clauses (removed l i M) ≤ M.room
-  removed_within = sums (live_clauses (removed l i M)) (live_clauses M) (removed l i M).dead_clauses M.dead_clauses M.room (removed_live M l i (own_small M L l i li) li) (unfold removed in refl) L.within
-    where
-      sums : (a b c d r : ℕ) → suc a ≡ b → c ≡ d → b + d ≤ r → a + c ≤ r
-      sums a b c d r p q s = omega arith
-
+  removed_within = omega (arith, removed_kept M l i, L.within)
   pub removed_lawful : Lawful (removed l i M)
   removed_lawful = record {
     formed = λ k E h. L.formed k E (removed_part M l i k E h);

@@ -9,7 +9,6 @@ use Rattle.rules.proofs.Places.{in_at, at_in, closed_length, retired_own, retire
 use Rattle.rules.proofs.Index.{removed_own, removed_apart, removed_length, swap_length, swap_here, swap_other, entered_own, entered_apart}
 use Rattle.rules.proofs.Along.{fewer_chains, allowed_along}
 use Rattle.rules.proofs.HowMany.{sum_apart, sum_less, sum_up, sum_le}
-use Rattle.rules.proofs.Facts.{le_same}
 
 pub entered_live : (C : List ℕ) (M : Meaning) → live_clauses (entered C M) ≤ suc (live_clauses M)
 unfolding live_clauses
@@ -19,10 +18,18 @@ entered_live C M = sum_up (λ k. length ((entered C M).own k)) (λ k. length (M.
 pub entered_kept : (C : List ℕ) (M : Meaning) → kept_clauses (entered C M) ≤ suc (kept_clauses M)
 entered_kept C M = let d : (entered C M).dead_clauses ≡ M.dead_clauses = unfold entered in refl in omega (arith, entered_live C M)
 
-pub removed_live : (M : Meaning) (l i : ℕ) → l < 2048 → i < length (M.own l) → suc (live_clauses (removed l i M)) ≡ live_clauses M
+-- one list with a clause less, and one that is no longer
+less_at : (M N : Meaning) (l : ℕ) → l < 2048 → ((k : ℕ) → (k ≡ l → ⊥) → N.own k ≡ M.own k) → suc (length (N.own l)) ≡ length (M.own l) → suc (live_clauses N) ≡ live_clauses M
 unfolding live_clauses
-removed_live M l i b li = sum_less (λ k. length ((removed l i M).own k)) (λ k. length (M.own k)) l 2048 0 (omega arith) (omega arith)
-    (omega (arith, removed_length M l i)) (λ k a. ap length (removed_apart M l i k a))
+less_at M N l b a e = sum_less (λ k. length (N.own k)) (λ k. length (M.own k)) l 2048 0 (omega arith) (omega arith) e (λ k d. ap length (a k d))
+
+fewer_at : (M N : Meaning) (l : ℕ) → ((k : ℕ) → (k ≡ l → ⊥) → N.own k ≡ M.own k) → length (N.own l) ≤ length (M.own l) → live_clauses N ≤ live_clauses M
+unfolding live_clauses
+fewer_at M N l a h = sum_le (λ k. length (N.own k)) (λ k. length (M.own k)) 2048 0
+    (λ k. ⊎_elim (λ e. subst (λ g. length (N.own g) ≤ length (M.own g)) (sym e) h) (λ d. omega (arith, ap length (a k d))) (cases_eq k l))
+
+pub removed_live : (M : Meaning) (l i : ℕ) → l < 2048 → i < length (M.own l) → suc (live_clauses (removed l i M)) ≡ live_clauses M
+removed_live M l i b li = less_at M (removed l i M) l b (removed_apart M l i) (omega (arith, removed_length M l i))
 
 swap_part : (i : ℕ) (xs : List (List ℕ)) (E : List ℕ) → In E (swap_out [] i xs) → In E xs
 swap_part i xs E h =
@@ -36,9 +43,7 @@ removed_part M l i k E h = ⊎_elim (λ e. subst (λ g. In E (M.own g)) (sym e) 
     (λ a. subst (In E) (removed_apart M l i k a) h) (cases_eq k l)
 
 pub retired_live : (M : Meaning) (l i : ℕ) → l < 2048 → i < length (M.own l) → suc (live_clauses (retired l i M)) ≡ live_clauses M
-unfolding live_clauses
-retired_live M l i b li = sum_less (λ k. length ((retired l i M).own k)) (λ k. length (M.own k)) l 2048 0 (omega arith) (omega arith)
-    (ap (λ xs. suc (length xs)) (retired_own M l i) ∙ closed_length (M.own l) i li) (λ k a. ap length (retired_apart M l i k a))
+retired_live M l i b li = less_at M (retired l i M) l b (retired_apart M l i) (ap (λ xs. suc (length xs)) (retired_own M l i) ∙ closed_length (M.own l) i li)
 
 pub shortened_live : (M : Meaning) (l i x : ℕ) → live_clauses (shortened l i x M) ≡ live_clauses M
 unfolding live_clauses
@@ -52,17 +57,18 @@ pub unindex_live : (M : Meaning) → live_clauses (index_off M) ≡ live_clauses
 unfolding index_off live_clauses
 unindex_live M = refl
 
-pub removed_fewer : (M : Meaning) (l i : ℕ) → live_clauses (removed l i M) ≤ live_clauses M
-unfolding live_clauses
-removed_fewer M l i = sum_le (λ k. length ((removed l i M).own k)) (λ k. length (M.own k)) 2048 0
-    (λ k. ⊎_elim (λ e. subst (λ g. length ((removed l i M).own g) ≤ length (M.own g)) (sym e) (omega (arith, removed_length M l i))) (λ a. omega (arith, ap length (removed_apart M l i k a))) (cases_eq k l))
+-- a removal leaves no more clauses, and as many dead ones
+pub removed_dead : (M : Meaning) (l i : ℕ) → (removed l i M).dead_clauses ≡ M.dead_clauses
+unfolding removed
+removed_dead M l i = refl
+
+pub removed_kept : (M : Meaning) (l i : ℕ) → kept_clauses (removed l i M) ≤ kept_clauses M
+removed_kept M l i = omega (arith, fewer_at M (removed l i M) l (removed_apart M l i) (omega (arith, removed_length M l i)), removed_dead M l i)
 
 pub retire_fewer : (l i : ℕ) (M : Meaning) → live_clauses (retire l i M).0 ≤ live_clauses M
-unfolding live_clauses retire
-retire_fewer l i M = cond_both {A = Meaning × Bool} (present M l i) (retired l i M, true) (M, false) (λ r. sum_of (map (λ k. length (r.0.own k)) literals) ≤ sum_of (map (λ k. length (M.own k)) literals))
-    (λ e. sum_le (λ k. length ((retired l i M).own k)) (λ k. length (M.own k)) 2048 0
-    (λ k. ⊎_elim (λ q. subst (λ g. length ((retired l i M).own g) ≤ length (M.own g)) (sym q) (omega (arith, ap length (retired_own M l i), closed_length (M.own l) i (ltb-true i (length (M.own l)) e)))) (λ a. omega (arith, ap length (retired_apart M l i k a))) (cases_eq k l)))
-    (λ e. le_same (sum_of (map (λ k. length (M.own k)) literals)))
+unfolding retire
+retire_fewer l i M = allowed_along (λ M N. live_clauses N ≤ live_clauses M) (fewer_chains live_clauses) (present M l i) M (retired l i M)
+    (λ e. fewer_at M (retired l i M) l (retired_apart M l i) (omega (arith, ap length (retired_own M l i), closed_length (M.own l) i (ltb-true i (length (M.own l)) e))))
 
 pub shorten_fewer : (l i x : ℕ) (M : Meaning) → live_clauses (shorten l i x M).0 ≤ live_clauses M
 unfolding shorten

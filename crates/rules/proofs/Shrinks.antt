@@ -17,9 +17,8 @@ use Rattle.rules.proofs.Verdicts.{last_in}
 use Rattle.rules.proofs.TakenOut.{cost_zero, out_to}
 use Rattle.rules.proofs.Formed.{formed_parts, some_not_nil, without_shorter}
 use Rattle.rules.proofs.Along.{equal_chains, fewer_chains, clear_along, taken_out_along}
-use Rattle.rules.proofs.Lives.{removed_fewer, removed_part}
+use Rattle.rules.proofs.Lives.{removed_part, removed_dead, removed_kept}
 use Rattle.rules.proofs.Counting.{Fine, taken_out_fewer}
-use Rattle.rules.proofs.Facts.{le_same, le_trans}
 
 -- ## Fewer lemmas than resolvents
 
@@ -129,10 +128,6 @@ cost_live M L I v = omega (arith, taken_out_less v all L I (λ l E i. omega (ari
 
 -- ## Clearing
 
-removed_dead : (l i : ℕ) (M : Meaning) → (removed l i M).dead_clauses ≡ M.dead_clauses
-unfolding removed
-removed_dead l i M = refl
-
 pub clear_part : (l : ℕ) (marks : List Bool) (M : Meaning) (k : ℕ) (E : List ℕ) → In E ((clear l marks M).own k) → In E (M.own k)
 clear_part l marks M k E = clear_along (λ M N. In E (N.own k) → In E (M.own k)) (record { same = λ M h. h; next = λ M N P f g h. f (g h) }) (λ l i M h. removed_part M l i k E) l marks M
 
@@ -140,11 +135,8 @@ pub clear_room : (l : ℕ) (marks : List Bool) (M : Meaning) → (clear l marks 
 unfolding removed
 clear_room = clear_along (λ M N. N.room ≡ M.room) (equal_chains (λ M. M.room)) (λ l i M h. refl)
 
-pub removed_kept : (l i : ℕ) (M : Meaning) → i < length (M.own l) → kept_clauses (removed l i M) ≤ kept_clauses M
-removed_kept l i M h = omega (arith, removed_fewer M l i, removed_dead l i M)
-
 pub clear_kept : (l : ℕ) (marks : List Bool) (M : Meaning) → kept_clauses (clear l marks M) ≤ kept_clauses M
-clear_kept = clear_along (λ M N. kept_clauses N ≤ kept_clauses M) (fewer_chains kept_clauses) removed_kept
+clear_kept = clear_along (λ M N. kept_clauses N ≤ kept_clauses M) (fewer_chains kept_clauses) (λ l i M h. removed_kept M l i)
 
 pub taken_out_dead : (n : ℕ) (W : Work) → (taken_out n W).store.dead_clauses ≡ W.store.dead_clauses
-taken_out_dead = taken_out_along (λ M N. N.dead_clauses ≡ M.dead_clauses) (equal_chains (λ M. M.dead_clauses)) (λ l i M h. removed_dead l i M)
+taken_out_dead = taken_out_along (λ M N. N.dead_clauses ≡ M.dead_clauses) (equal_chains (λ M. M.dead_clauses)) (λ l i M h. removed_dead M l i)

@@ -27,11 +27,10 @@ use Rattle.rules.proofs.HowMany.{sum_apart, sum_part}
 use Rattle.rules.proofs.Along.{fewer_chains, each_along, both_along}
 use Rattle.rules.proofs.Passes.{index_on_keeps, taken_out_keeps, attempt_keeps}
 use Rattle.rules.proofs.Bve.{GoodIndexed, attempt_good, index_good, eliminated_any}
-use Rattle.rules.proofs.Shrinks.{lemmas_length, lemmas_short, taken_out_less, taken_out_dead, clear_part, clear_kept, clear_room, removed_kept}
+use Rattle.rules.proofs.Shrinks.{lemmas_length, lemmas_short, taken_out_less, taken_out_dead, clear_part, clear_kept, clear_room}
 use Rattle.rules.proofs.Accepted.{AllFormed, AllShort, adds_accepted, adds_short, judged_accepted, judged_short, judged_kept, adds_live}
 use Rattle.rules.proofs.Const as const
-use Rattle.rules.proofs.Facts.{le_same, le_trans}
-use Rattle.rules.proofs.Lives.{index_live, unindex_live}
+use Rattle.rules.proofs.Lives.{index_live, unindex_live, removed_kept}
 
 -- ## What is well formed
 
@@ -138,7 +137,7 @@ module _ (first : Network) (n : ℕ) (gone frozen : Assignment) (small : n ≤ 1
   unfolding turns ahead
   nodes_accepted zero i W c s r = (refl, (λ T h. absurd h), omega arith)
   nodes_accepted (suc t) i W c s r =
-      let d = node_done i W c s (first_part (kept_clauses W.store) (length (W.store.own (2 * i)) + length (W.store.own (2 * i + 1))) (ahead t (suc i) W.store) W.store.room r) in
+      let d = node_done i W c s (omega (arith, r)) in
       let N = const.noded first n gone frozen i W c in
       let same : ahead t (suc i) (plain.const_node i W).store ≡ ahead t (suc i) W.store = unfold ahead in (sum_apart (λ k. length ((plain.const_node i W).store.own (2 * k)) + length ((plain.const_node i W).store.own (2 * k + 1)))
       (λ k. length (W.store.own (2 * k)) + length (W.store.own (2 * k + 1))) t (suc i)
@@ -149,18 +148,14 @@ module _ (first : Network) (n : ℕ) (gone frozen : Assignment) (small : n ≤ 1
         λ T h. ⊎_elim (λ e. subst (λ U. AllAccepted (node_entries U.at U.before)) (sym e) d.accepted) (λ j. f T (subst (λ U. In T (turns (from (suc i) t) U)) d.agrees j)) h,
         omega (arith, d.kept, same, k),
       )
-    where
-      first_part : (a b c q : ℕ) → a + (b + c) ≤ q → a + b ≤ q
-      first_part a b c q h = omega arith
-
 -- valued nodes lose clauses
 drop_kept : (n : ℕ) (W : Work) → kept_clauses (const_drop n W).store ≤ kept_clauses W.store
 unfolding const_drop
 drop_kept n W = go (W.values n)
   where
     go : (o : Option Bool) → kept_clauses (if_known o (storing W (clear_all (2 * n + 1) (clear_all (2 * n) W.store))) W).store ≤ kept_clauses W.store
-    go None = le_same (kept_clauses W.store)
-    go (Some b) = both_along (λ M N. kept_clauses N ≤ kept_clauses M) (fewer_chains kept_clauses) removed_kept n W.store
+    go None = omega arith
+    go (Some b) = both_along (λ M N. kept_clauses N ≤ kept_clauses M) (fewer_chains kept_clauses) (λ l i M h. removed_kept M l i) n W.store
 
 drops_kept : (ns : List ℕ) (W : Work) → kept_clauses (each const_drop ns W).store ≤ kept_clauses W.store
 drops_kept = each_along (λ W N. kept_clauses N.store ≤ kept_clauses W.store) (fewer_chains (λ W. kept_clauses W.store)) const_drop drop_kept
@@ -279,15 +274,10 @@ module _ (first : Network) where
 
     pub attempt_shrinks : live_clauses (attempt v W).store ≤ live_clauses W.store
     unfolding attempt Rs
-    attempt_shrinks = cond_both (passed_over W v) W (attempted v (all_resolvents W.store v) W) (λ N. live_clauses N.store ≤ live_clauses W.store) (λ e. le_same (live_clauses W.store))
-        (λ e. cond_both (given_up W v (all_resolvents W.store v)) W (eliminated v (all_resolvents W.store v) W) (λ N. live_clauses N.store ≤ live_clauses W.store) (λ f. le_same (live_clauses W.store))
+    attempt_shrinks = cond_both (passed_over W v) W (attempted v (all_resolvents W.store v) W) (λ N. live_clauses N.store ≤ live_clauses W.store) (λ e. omega arith)
+        (λ e. cond_both (given_up W v (all_resolvents W.store v)) W (eliminated v (all_resolvents W.store v) W) (λ N. live_clauses N.store ≤ live_clauses W.store) (λ f. omega arith)
         (λ f. subst (λ N. live_clauses N.store ≤ live_clauses W.store) (sym (eliminated_accepted e f).0) (unfold plain.eliminated in
-        (sums (live_clauses (taken_out v W).store) (cost W.store v) (live_clauses W.store) (length (lemmas (all_resolvents W.store v))) (live_clauses (each plain.add (lemmas (all_resolvents W.store v)) (taken_out v W)).store) out_less (few f)
-        (adds_live (lemmas (all_resolvents W.store v)) (taken_out v W))))))
-      where
-        sums : (a c b n d : ℕ) → a + c ≤ b → n ≤ c → d ≤ a + n → d ≤ b
-        sums a c b n d p q r = omega arith
-
+        (omega (arith, out_less, few f, adds_live (lemmas (all_resolvents W.store v)) (taken_out v W))))))
     pub attempt_both : GoodIndexed first (attempt v W) × Lawful (attempt v W).store
     attempt_both = (subst (GoodIndexed first) (sym attempt_agrees) (attempt_good first v W G), (attempt_keeps v W L).0)
 
@@ -311,11 +301,11 @@ module _ (first : Network) where
 
   attempts_shrink : (r f : ℕ) (ws : List ℕ) (W : Work) → Met r W → live_clauses (attempts f ws W).store ≤ live_clauses W.store
   unfolding attempts
-  attempts_shrink r zero ws W m = le_same (live_clauses W.store)
-  attempts_shrink r (suc f) [] W m = le_same (live_clauses W.store)
+  attempts_shrink r zero ws W m = omega arith
+  attempts_shrink r (suc f) [] W m = omega arith
   attempts_shrink r (suc f) (k ∷ ks) W m =
       let n = least (use_count W.store) k ks in
-      le_trans (live_clauses (attempts f (but n (k ∷ ks)) (attempt n W)).store) (live_clauses (attempt n W).store) (live_clauses W.store) (attempts_shrink r f (but n (k ∷ ks)) (attempt n W) (attempt_met r n W m)) (attempt_shrinks n W m.good m.lawful)
+      omega (arith, attempts_shrink r f (but n (k ∷ ks)) (attempt n W) (attempt_met r n W m), attempt_shrinks n W m.good m.lawful)
 
   module _ (W : Work) (G : Good first W) (L : Lawful W.store) where
     index_met : W.store.indexed ≡ false → Met W.store.room (storing W (index_on W.store))
@@ -327,7 +317,7 @@ module _ (first : Network) where
 
     pub bve_shrinks : live_clauses (bve_simplify W).store ≤ live_clauses W.store
     unfolding bve_simplify
-    bve_shrinks = cond_both W.store.indexed W _ (λ N. live_clauses N.store ≤ live_clauses W.store) (λ e. le_same (live_clauses W.store))
+    bve_shrinks = cond_both W.store.indexed W _ (λ N. live_clauses N.store ≤ live_clauses W.store) (λ e. omega arith)
         (λ e. subst (λ n. live_clauses (attempts (suc W.top) (up_to (suc W.top)) (storing W (index_on W.store))).store ≤ n) (index_live W.store)
         (attempts_shrink W.store.room (suc W.top) (up_to (suc W.top)) (storing W (index_on W.store)) (index_met e)))
 
