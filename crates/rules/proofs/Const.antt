@@ -286,72 +286,56 @@ module _ (first : Network) (n : ℕ) (gone frozen : Assignment) where
     pub new_ones : (E : List ℕ) → In E ext → N.values (node l) ≡ None → simplified N.values E ≡ Some E
 
   module _ (l : ℕ) (C : List ℕ) (Cs : List (List ℕ)) (marks : List Bool) where
-    judged_goes : (W N : Work) → Judging l Cs marks W N → Reason W.values C → Judging l (C ∷ Cs) (true ∷ marks) W N
-    judged_goes W N J r = record {
+    -- one clause more in front: what is known of it, marked or not
+    judged_more : (b : Bool) (W N : Work) (J : Judging l Cs marks W N) → (b ≡ true → Reason N.values C)
+        → (b ≡ false → N.values (node l) ≡ None → (S : List ℕ) × (simplified N.values C ≡ Some S) × ((S ≡ C) ⊎ In S J.ext)) → Judging l (C ∷ Cs) (b ∷ marks) W N
+    judged_more b W N J r s = record {
       cons = J.cons;
       turn = J.turn;
       ext = J.ext;
       lists = J.lists;
       others = J.others;
       len = ap suc J.len;
-      gone_ones = λ j. at j;
-      left_ones = λ j. left j;
+      gone_ones = at;
+      left_ones = left;
       new_ones = J.new_ones;
     }
       where
-        at : (j : ℕ) → j < suc (length Cs) → get_or (true ∷ marks) j false ≡ true → Reason N.values (get_or (C ∷ Cs) j [])
-        at zero lj t = reason_grow W.values N.values J.turn.grow C r
+        at : (j : ℕ) → j < suc (length Cs) → get_or (b ∷ marks) j false ≡ true → Reason N.values (get_or (C ∷ Cs) j [])
+        at zero lj t = r t
         at (suc j) lj t = J.gone_ones j (omega arith) t
 
-        left : (j : ℕ) → j < suc (length Cs) → get_or (true ∷ marks) j false ≡ false → N.values (node l) ≡ None → (S : List ℕ) × (simplified N.values (get_or (C ∷ Cs) j []) ≡ Some S) × ((S ≡ get_or (C ∷ Cs) j []) ⊎ In S J.ext)
-        left zero lj f = absurd (both_ways true f refl)
+        left : (j : ℕ) → j < suc (length Cs) → get_or (b ∷ marks) j false ≡ false → N.values (node l) ≡ None → (S : List ℕ) × (simplified N.values (get_or (C ∷ Cs) j []) ≡ Some S) × ((S ≡ get_or (C ∷ Cs) j []) ⊎ In S J.ext)
+        left zero lj f = s f
         left (suc j) lj f = J.left_ones j (omega arith) f
 
-    judged_stays : (W N : Work) → Judging l Cs marks W N → simplified W.values C ≡ Some C → Judging l (C ∷ Cs) (false ∷ marks) W N
-    judged_stays W N J r = record {
-      cons = J.cons;
-      turn = J.turn;
-      ext = J.ext;
-      lists = J.lists;
-      others = J.others;
-      len = ap suc J.len;
-      gone_ones = λ j. at j;
-      left_ones = λ j. left j;
-      new_ones = J.new_ones;
-    }
-      where
-        at : (j : ℕ) → j < suc (length Cs) → get_or (false ∷ marks) j false ≡ true → Reason N.values (get_or (C ∷ Cs) j [])
-        at zero lj t = absurd (both_ways false refl t)
-        at (suc j) lj t = J.gone_ones j (omega arith) t
+    judged_goes : (W N : Work) → Judging l Cs marks W N → Reason W.values C → Judging l (C ∷ Cs) (true ∷ marks) W N
+    judged_goes W N J r = judged_more true W N J (λ t. reason_grow W.values N.values J.turn.grow C r) (λ f. absurd (both_ways true f refl))
 
-        left : (j : ℕ) → j < suc (length Cs) → get_or (false ∷ marks) j false ≡ false → N.values (node l) ≡ None → (S : List ℕ) × (simplified N.values (get_or (C ∷ Cs) j []) ≡ Some S) × ((S ≡ get_or (C ∷ Cs) j []) ⊎ In S J.ext)
-        left zero lj f u = (C, ap (λ V. simplified V C) (turn_path (node l) W N J.turn u) ∙ r, inl refl)
-        left (suc j) lj f u = J.left_ones j (omega arith) f u
+    judged_stays : (W N : Work) → Judging l Cs marks W N → simplified W.values C ≡ Some C → Judging l (C ∷ Cs) (false ∷ marks) W N
+    judged_stays W N J r = judged_more false W N J (λ t. absurd (both_ways false refl t)) (λ f u. (C, ap (λ V. simplified V C) (turn_path (node l) W N J.turn u) ∙ r, inl refl))
 
     judged_shrinks : (W : Work) (c : Consting W) (S : List ℕ) (i : In C (W.store.own l)) (e : simplified W.values C ≡ Some S) (ls : last S ≡ last C) (N : Work)
         → Judging l Cs marks (valuing (storing W (entered S W.store)) (known_by S W.values)) N → Judging l (C ∷ Cs) (false ∷ marks) W N
-    judged_shrinks W c S i e ls N J = record {
-      cons = J.cons;
-      turn = both;
-      ext = S ∷ J.ext;
-      lists = J.lists ∙ ap (λ xs. xs ++ J.ext) (short_own W c l C S i e ls) ∙ append_assoc (W.store.own l) (S ∷ []) J.ext;
-      others = λ k a. J.others k a ∙ short_others W c l C S i e ls k a;
-      len = ap suc J.len;
-      gone_ones = λ j. at j;
-      left_ones = λ j. left j;
-      new_ones = λ E h u. ⊎_elim (λ q. subst (λ D. simplified N.values D ≡ Some D) (sym q) (ap (λ V. simplified V S) (turn_path (node l) W N both u) ∙ simplified_same W.values S (λ x m. ((simplified_some W.values C S e).0 x m).1))) (λ j. J.new_ones E j u) h;
-    }
+    judged_shrinks W c S i e ls N J =
+        judged_more false W N entered_first (λ t. absurd (both_ways false refl t)) (λ f u. (S, ap (λ V. simplified V C) (turn_path (node l) W N both u) ∙ e, inr (inl refl)))
       where
         both : Turn (node l) W N
         both = turn_then (node l) W (valuing (storing W (entered S W.store)) (known_by S W.values)) N (short_turn W c l C S i e ls) J.turn
 
-        at : (j : ℕ) → j < suc (length Cs) → get_or (false ∷ marks) j false ≡ true → Reason N.values (get_or (C ∷ Cs) j [])
-        at zero lj t = absurd (both_ways false refl t)
-        at (suc j) lj t = J.gone_ones j (omega arith) t
-
-        left : (j : ℕ) → j < suc (length Cs) → get_or (false ∷ marks) j false ≡ false → N.values (node l) ≡ None → (T : List ℕ) × (simplified N.values (get_or (C ∷ Cs) j []) ≡ Some T) × ((T ≡ get_or (C ∷ Cs) j []) ⊎ In T (S ∷ J.ext))
-        left zero lj f u = (S, ap (λ V. simplified V C) (turn_path (node l) W N both u) ∙ e, inr (inl refl))
-        left (suc j) lj f u = let (T, p, q) = J.left_ones j (omega arith) f u in (T, p, ⊎_elim inl (λ h. inr (inr h)) q)
+        -- the others, with S entered before them
+        entered_first : Judging l Cs marks W N
+        entered_first = record {
+          cons = J.cons;
+          turn = both;
+          ext = S ∷ J.ext;
+          lists = J.lists ∙ ap (λ xs. xs ++ J.ext) (short_own W c l C S i e ls) ∙ append_assoc (W.store.own l) (S ∷ []) J.ext;
+          others = λ k a. J.others k a ∙ short_others W c l C S i e ls k a;
+          len = J.len;
+          gone_ones = J.gone_ones;
+          left_ones = λ j lj f u. let (T, p, q) = J.left_ones j lj f u in (T, p, ⊎_elim inl (λ h. inr (inr h)) q);
+          new_ones = λ E h u. ⊎_elim (λ q. subst (λ D. simplified N.values D ≡ Some D) (sym q) (ap (λ V. simplified V S) (turn_path (node l) W N both u) ∙ simplified_same W.values S (λ x m. ((simplified_some W.values C S e).0 x m).1))) (λ j. J.new_ones E j u) h;
+        }
 
   abbrev pub JudgedAs : ℕ → List (List ℕ) → Work → List Bool × Work → Type 0
   JudgedAs l Cs W r = Judging l Cs r.0 W r.1
