@@ -49,48 +49,23 @@ entered_short S M s h l C i = ⊎_elim
 -- a clause entered without a test
 module _ (C : List ℕ) (W : Work) where
   add_grows : Grows W.store (plain.add C W).store
-  unfolding plain.add
-  add_grows = go (simplified W.values C)
-    where
-      go : (o : Option (List ℕ)) → Grows W.store (plain.add_simplified o W).store
-      go None = λ l E h. h
-      go (Some S) = entered_grows S W.store
+  add_grows = plain.add_cases C W (λ N. Grows W.store N.store) (λ l E h. h) (λ S e. entered_grows S W.store)
 
   add_in : (S : List ℕ) → simplified W.values C ≡ Some S → In S ((plain.add C W).store.own (last S))
   unfolding plain.add
   add_in S e = subst (λ o. In S ((plain.add_simplified o W).store.own (last S))) (sym e) (entered_in S W.store)
 
   add_short : length C ≤ 32 → AllShort W.store → AllShort (plain.add C W).store
-  unfolding plain.add
-  add_short s h = go (simplified W.values C) (no_longer W.values C)
-    where
-      go : (o : Option (List ℕ)) → NoLonger C o → AllShort (plain.add_simplified o W).store
-      go None n = h
-      go (Some S) (n, f) = entered_short S W.store (omega (arith, n)) h
+  add_short s h = plain.add_cases C W (λ N. AllShort N.store) h (λ S e. let n = (subst (NoLonger C) e (no_longer W.values C)).0 in entered_short S W.store (omega arith) h)
 
   add_kept : kept_clauses (plain.add C W).store ≤ suc (kept_clauses W.store)
-  unfolding plain.add
-  add_kept = go (simplified W.values C)
-    where
-      go : (o : Option (List ℕ)) → kept_clauses (plain.add_simplified o W).store ≤ suc (kept_clauses W.store)
-      go None = omega arith
-      go (Some S) = entered_kept S W.store
+  add_kept = plain.add_cases C W (λ N. kept_clauses N.store ≤ suc (kept_clauses W.store)) (omega arith) (λ S e. entered_kept S W.store)
 
   add_live : live_clauses (plain.add C W).store ≤ suc (live_clauses W.store)
-  unfolding plain.add
-  add_live = go (simplified W.values C)
-    where
-      go : (o : Option (List ℕ)) → live_clauses (plain.add_simplified o W).store ≤ suc (live_clauses W.store)
-      go None = omega arith
-      go (Some S) = entered_live S W.store
+  add_live = plain.add_cases C W (λ N. live_clauses N.store ≤ suc (live_clauses W.store)) (omega arith) (λ S e. entered_live S W.store)
 
   add_room : (plain.add C W).store.room ≡ W.store.room
-  unfolding plain.add entered
-  add_room = go (simplified W.values C)
-    where
-      go : (o : Option (List ℕ)) → (plain.add_simplified o W).store.room ≡ W.store.room
-      go None = refl
-      go (Some S) = refl
+  add_room = plain.add_cases C W (λ N. N.store.room ≡ W.store.room) refl (λ S e. unfold entered in refl)
 
   -- the entry is accepted, and so it makes no difference that it is tested
   abbrev Accepts : Type 0

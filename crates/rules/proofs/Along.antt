@@ -2,9 +2,10 @@
 use Rattle.std.proofs.Common.{◌≡◌, ℕ, zero, suc, ◌+◌, ◌*◌, ◌<◌, ◌≤◌, Bool, true, false, ◌&&◌, eqb, ltb, List, [], ◌∷◌, map, length, get_or, Some, None, Option, refl, ◌∙◌}
 use Rattle.std.proofs.Math.Nat.{le_refl, le_trans}
 use Rattle.std.proofs.lemmas.Bool.{cond_both, ltb-true}
+use Rattle.network.specs.Values.{simplified}
 use Rattle.network.specs.Lemmas.{lemmas}
 use Rattle.rules.specs.Store.{Ref, live, dead, Meaning, after_retired, removed, swap_out, allowed, retire, shorten, index_on, index_off}
-use Rattle.rules.specs.Work.{Work, storing, taking_out, own_of, each, nodes_of, literals_of, add, cleared, clear, clear_all}
+use Rattle.rules.specs.Work.{Work, storing, taking_out, own_of, each, nodes_of, literals_of, add_simplified, add, cleared, clear, clear_all}
 use Rattle.rules.specs.Const.{Fate, goes, shrinks, stays, fate, judged_by, judged, const_node, if_known, const_drop, const_simplify}
 use Rattle.rules.specs.Bve.{all_resolvents, use_count, use_marks, uses_cleared, taken_out, eliminated, passed_over, given_up, attempted, attempt, least, but, attempts, bve_simplify}
 use Rattle.rules.specs.Subsume.{Verdict, apart, subsumed, merged, both_lost, long_lost, verdict, place_after, on_verdict, checked_from, checked, walk_on, walked, walk}
@@ -32,6 +33,15 @@ each_along R o f h (x ∷ xs) s = o.next s (f x s) (each f xs (f x s)) (h x s) (
 -- a change that a store may refuse
 pub allowed_along : (R : Meaning → Meaning → Type 0) → Chains R → (b : Bool) (M N : Meaning) → (b ≡ true → R M N) → R M (allowed b M N).0
 allowed_along R o b M N h = cond_both {A = Meaning × Bool} b (N, true) (M, false) (λ r. R M r.0) h (λ e. o.same M)
+
+-- an entry, by cases: a literal of the clause is true, or what is left of it is asked to come in
+pub entry_cases : (C : List ℕ) (W : Work) (P : Work → Type 0) → P W → ((S : List ℕ) → simplified W.values C ≡ Some S → P (add_simplified (Some S) W)) → P (add C W)
+unfolding add
+entry_cases C W P p = go (simplified W.values C)
+  where
+    go : (o : Option (List ℕ)) → ((S : List ℕ) → o ≡ Some S → P (add_simplified (Some S) W)) → P (add_simplified o W)
+    go None h = p
+    go (Some S) h = h S refl
 
 -- ## Clearing
 

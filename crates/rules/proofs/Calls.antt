@@ -16,7 +16,7 @@ use Rattle.rules.specs.Subsume.{subsume_simplify}
 use Rattle.rules.specs.Calls.{need, lent, half, const_answer, bve_answer, subsume_answer, simplify_answer, simplified_work, finalized, with_live, with_out, Call, const_call, bve_call, subsume_call, simplify_call, finalize_call, called, after}
 use Rattle.rules.proofs.Subsume.{subsume_kept}
 use Rattle.rules.proofs.Const.{const_good}
-use Rattle.rules.proofs.Along.{Chains, Steps, const_along, bve_along}
+use Rattle.rules.proofs.Along.{Chains, Steps, entry_cases, const_along, bve_along}
 use Rattle.rules.proofs.Passes.{const_keeps, bve_keeps, subsume_keeps}
 use Rattle.rules.proofs.Unrefused.{const_agrees, bve_good}
 
@@ -28,12 +28,7 @@ nodes_chains : Chains SameNodes
 nodes_chains = record { same = λ W. (refl, refl); next = λ W N R (a, b) (c, d). (c ∙ a, d ∙ b) }
 
 add_nodes : (C : List ℕ) (W : Work) → SameNodes W (add C W)
-unfolding add
-add_nodes C W = go (simplified W.values C)
-  where
-    go : (o : Option (List ℕ)) → SameNodes W (add_simplified o W)
-    go None = (refl, refl)
-    go (Some S) = (refl, refl)
+add_nodes C W = entry_cases C W (SameNodes W) (refl, refl) (λ S e. (refl, refl))
 
 nodes_steps : Steps SameNodes
 nodes_steps = record { chains = nodes_chains; enters = add_nodes; removes = λ l i W h. (refl, refl); takes = λ n W. (refl, refl) }

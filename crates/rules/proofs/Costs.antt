@@ -11,7 +11,7 @@ use Rattle.rules.specs.Work.{Work, storing, each, literals_of, add_simplified, a
 use Rattle.rules.specs.Bve.{all_resolvents, use_count, use_marks, uses_cleared, taken_out, eliminated, passed_over, given_up, attempted, attempt, least, but}
 use Rattle.rules.specs.Turns.{Turn, attempt_turns, bve_turns}
 use Rattle.rules.specs.Sizes.{SizesSmall}
-use Rattle.rules.proofs.Along.{stays_chains, allowed_along, Steps, attempt_along}
+use Rattle.rules.proofs.Along.{stays_chains, allowed_along, entry_cases, Steps, attempt_along}
 use Rattle.rules.proofs.Index.{removed_indexed, entered_indexed, index_on_indexed}
 use Rattle.rules.proofs.Formed.{formed_parts}
 use Rattle.rules.proofs.Passes.{index_on_keeps, attempt_keeps, counts_small}
@@ -21,12 +21,9 @@ use Rattle.rules.proofs.Unrefused.{kept_few}
 
 -- an index stays
 add_indexed : (C : List ℕ) (W : Work) → Indexed W.store → Indexed (add C W).store
-unfolding add enter
-add_indexed C W I = go (simplified W.values C)
-  where
-    go : (o : Option (List ℕ)) → Indexed (add_simplified o W).store
-    go None = I
-    go (Some S) = allowed_along (λ M N. Indexed M → Indexed N) (stays_chains Indexed) (enterable W.store S) W.store (entered S W.store) (λ e. entered_indexed W.store S) I
+unfolding enter
+add_indexed C W I = entry_cases C W (λ N. Indexed N.store) I
+    (λ S e. allowed_along (λ M N. Indexed M → Indexed N) (stays_chains Indexed) (enterable W.store S) W.store (entered S W.store) (λ e. entered_indexed W.store S) I)
 
 indexed_steps : Steps (λ W N. Indexed W.store → Indexed N.store)
 indexed_steps = record { chains = stays_chains (λ W. Indexed W.store); enters = add_indexed; removes = λ l i W h I. removed_indexed W.store l i I h; takes = λ n W I. I }

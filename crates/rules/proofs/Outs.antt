@@ -12,19 +12,14 @@ use Rattle.rules.specs.Bve.{all_resolvents, use_count, taken_out, eliminated, pa
 use Rattle.rules.specs.Subsume.{subsume_simplify}
 use Rattle.rules.specs.Turns.{takes_out}
 use Rattle.rules.specs.Calls.{need, lent, half, const_answer, bve_answer, subsume_answer, simplify_answer, simplified_work, finalized, with_live, with_out, Call, const_call, bve_call, subsume_call, simplify_call, finalize_call, called}
-use Rattle.rules.proofs.Along.{each_along, Steps, const_along, bve_along}
+use Rattle.rules.proofs.Along.{each_along, entry_cases, Steps, const_along, bve_along}
 
 -- the nodes taken out of W are taken out of N
 abbrev Remembers : Work → Work → Type 0
 Remembers W N = (v : ℕ) → In v W.out → In v N.out
 
 add_remembers : (C : List ℕ) (W : Work) → Remembers W (add C W)
-unfolding add
-add_remembers C W = go (simplified W.values C)
-  where
-    go : (o : Option (List ℕ)) → Remembers W (add_simplified o W)
-    go None = λ v i. i
-    go (Some S) = λ v i. i
+add_remembers C W = entry_cases C W (Remembers W) (λ v i. i) (λ S e v i. i)
 
 remembers : Steps Remembers
 remembers = record {

@@ -13,7 +13,7 @@ use Rattle.rules.specs.Bve.{all_resolvents, use_count, use_marks, uses_cleared, 
 use Rattle.rules.specs.Subsume.{Verdict, apart, subsumed, merged, both_lost, long_lost, verdict, place_after, on_verdict, checked_from, checked, walk_on, walked, walk, subsume_simplify}
 use Rattle.rules.specs.Subsume as rule
 use Rattle.rules.proofs.HowMany.{count_more, count_none, count_either}
-use Rattle.rules.proofs.Along.{Chains, each_along, allowed_along, taken_out_along, Steps, node_along, const_along, attempt_along, bve_along, walks_along}
+use Rattle.rules.proofs.Along.{Chains, each_along, entry_cases, allowed_along, taken_out_along, Steps, node_along, const_along, attempt_along, bve_along, walks_along}
 use Rattle.rules.proofs.Lawful.{own_small, entered_lawful, removed_lawful, retired_lawful, shortened_lawful, index_on_lawful, index_on_room, index_off_lawful, emptied_lawful}
 
 -- N comes of M by lawful changes
@@ -81,12 +81,7 @@ abbrev pub KeepsWork : Work → Work → Type 0
 KeepsWork W N = Keeps W.store N.store
 
 add_keeps : (C : List ℕ) (W : Work) → KeepsWork W (add C W)
-unfolding add
-add_keeps C W = go (simplified W.values C)
-  where
-    go : (o : Option (List ℕ)) → KeepsWork W (add_simplified o W)
-    go None = keeps_chains.same W.store
-    go (Some S) = enter_keeps S W.store
+add_keeps C W = entry_cases C W (KeepsWork W) (keeps_chains.same W.store) (λ S e. enter_keeps S W.store)
 
 keeps_work : Chains KeepsWork
 keeps_work = record { same = λ W. keeps_chains.same W.store; next = λ W N R. keeps_chains.next W.store N.store R.store }
