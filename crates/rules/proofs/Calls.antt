@@ -1,17 +1,15 @@
 -- Every call keeps what is kept, and leaves the nodes and the frozen ones as they are. Assumes nothing.
-use Rattle.std.proofs.Common.{◌≡◌, ℕ, zero, suc, ◌/◌, ◌≤◌, leb, List, [], ◌∷◌, Some, None, Option, Result, sym, refl, ◌∙◌, subst}
+use Rattle.std.proofs.Common.{◌≡◌, ℕ, suc, ◌/◌, ◌≤◌, leb, List, [], ◌∷◌, Result, sym, refl, ◌∙◌, subst}
 use Rattle.std.proofs.lemmas.Bool.{cond_both, leb-true}
 use Rattle.network.specs.Networks.{Network}
 use Rattle.network.specs.Clauses.{has}
-use Rattle.network.specs.Values.{simplified}
-use Rattle.network.specs.Lemmas.{lemmas}
 use Rattle.image.specs.declared.fault.Fault.{Fault}
-use Rattle.rules.specs.Store.{live_clauses, index_on}
+use Rattle.rules.specs.Store.{live_clauses}
 use Rattle.rules.specs.Good.{Good}
 use Rattle.rules.specs.Lawful.{Lawful}
-use Rattle.rules.specs.Work.{Work, storing, each, add_simplified, add}
+use Rattle.rules.specs.Work.{Work, add}
 use Rattle.rules.specs.Const.{const_simplify}
-use Rattle.rules.specs.Bve.{all_resolvents, use_count, taken_out, eliminated, passed_over, given_up, attempted, attempt, least, but, attempts, bve_simplify}
+use Rattle.rules.specs.Bve.{bve_simplify}
 use Rattle.rules.specs.Subsume.{subsume_simplify}
 use Rattle.rules.specs.Calls.{need, lent, half, const_answer, bve_answer, subsume_answer, simplify_answer, simplified_work, finalized, with_live, with_out, Call, const_call, bve_call, subsume_call, simplify_call, finalize_call, called, after}
 use Rattle.rules.proofs.Subsume.{subsume_kept}

@@ -1,14 +1,12 @@
 -- How large things get over any lawful store. Assumes nothing.
-use Rattle.std.proofs.Common.{◌≡◌, ℕ, zero, suc, ◌+◌, ◌*◌, ◌≤◌, Bool, true, false, not, ltb, List, [], ◌∷◌, length, get_or, Some, None, Option, sym, ◌∙◌, subst, ⊎_elim, arith}
-use Rattle.std.proofs.lemmas.Bool.{cond_both, and_parts, not-true, ltb-true}
+use Rattle.std.proofs.Common.{◌≡◌, ℕ, zero, suc, not, List, [], ◌∷◌, sym, ◌∙◌, subst, ⊎_elim, arith}
+use Rattle.std.proofs.lemmas.Bool.{cond_both, and_parts, not-true}
 use Rattle.network.specs.Lists.{In}
-use Rattle.network.specs.Values.{simplified}
-use Rattle.network.specs.Lemmas.{lemmas}
-use Rattle.rules.specs.Store.{Meaning, up_to, live_clauses, swap_out, entered, removed, enterable, enter, index_on}
+use Rattle.rules.specs.Store.{up_to, entered, enterable, enter, index_on}
 use Rattle.rules.specs.Index.{Indexed}
 use Rattle.rules.specs.Lawful.{Lawful}
-use Rattle.rules.specs.Work.{Work, storing, each, literals_of, add_simplified, add, cleared, clear, clear_all}
-use Rattle.rules.specs.Bve.{all_resolvents, use_count, use_marks, uses_cleared, taken_out, eliminated, passed_over, given_up, attempted, attempt, least, but}
+use Rattle.rules.specs.Work.{Work, storing, add}
+use Rattle.rules.specs.Bve.{all_resolvents, use_count, passed_over, given_up, attempt, least, but}
 use Rattle.rules.specs.Turns.{Turn, attempt_turns, bve_turns}
 use Rattle.rules.specs.Sizes.{SizesSmall}
 use Rattle.rules.proofs.Along.{stays_chains, allowed_along, entry_cases, Steps, attempt_along}

@@ -1,17 +1,17 @@
 -- An elimination enters no more clauses than it removes. Assumes nothing.
-use Rattle.std.proofs.Common.{◌≡◌, ℕ, zero, suc, ◌+◌, ◌-◌, ◌*◌, ◌<◌, ◌≤◌, Bool, false, not, eqb, ltb, ◌⊎◌, List, [], ◌∷◌, length, get_or, filter, sym, refl, ap, ◌∙◌, subst, inl, inr, ⊎_elim, arith}
-use Rattle.std.proofs.lemmas.Bool.{cases_eq, cases_Bool, cond_both, both_ways, ltb-true, eq-eqb}
+use Rattle.std.proofs.Common.{◌≡◌, ℕ, suc, ◌+◌, ◌-◌, ◌*◌, ◌<◌, ◌≤◌, not, eqb, ◌⊎◌, List, [], length, get_or, filter, sym, refl, ap, ◌∙◌, subst, inl, inr, ⊎_elim, arith}
+use Rattle.std.proofs.lemmas.Bool.{cases_eq, cases_Bool, both_ways, eq-eqb}
 use Rattle.std.proofs.lemmas.List.{length-map}
 use Rattle.network.specs.Assignments.{node}
 use Rattle.network.specs.Lists.{In}
 use Rattle.network.specs.Clauses.{Ordered, has, last, front}
 use Rattle.network.proofs.Lists.{any_from, has_in}
 use Rattle.network.proofs.Ordered.{ordered_once}
-use Rattle.rules.specs.Store.{Meaning, is_at, how_many, live_clauses, moved_ref, removed, swap_out}
+use Rattle.rules.specs.Store.{Meaning, is_at, how_many, live_clauses, moved_ref, removed}
 use Rattle.rules.specs.Held.{Placed}
 use Rattle.rules.specs.Index.{Indexed}
-use Rattle.rules.specs.Work.{Work, each, cleared, clear, clear_all, literals_of}
-use Rattle.rules.specs.Bve.{cost, use_marks, uses_cleared, taken_out}
+use Rattle.rules.specs.Work.{Work}
+use Rattle.rules.specs.Bve.{cost, taken_out}
 use Rattle.rules.proofs.Places.{in_at}
 use Rattle.rules.proofs.Index.{removed_apart, removed_length, removed_indexed}
 use Rattle.rules.proofs.TakenOut.{front_in}

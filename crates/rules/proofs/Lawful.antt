@@ -175,6 +175,7 @@ module _ (l i : ℕ) (M : Meaning) (L : Lawful M) (li : i < length (M.own l)) wh
 
   removed_within : kept_clauses (removed l i M) ≤ M.room
   removed_within = omega (arith, removed_kept M l i, L.within)
+
   pub removed_lawful : Lawful (removed l i M)
   removed_lawful = record {
     formed = λ k E h. L.formed k E (removed_part M l i k E h);

@@ -1,14 +1,13 @@
 -- The nodes taken out are logged, and no call forgets one. Assumes nothing.
-use Rattle.std.proofs.Common.{◌≡◌, ℕ, zero, suc, ◌+◌, ◌*◌, ◌/◌, Bool, true, cond, not, leb, List, [], ◌∷◌, Some, None, Option, Result, sym, refl, ◌∙◌, subst, inl, inr}
+use Rattle.std.proofs.Common.{◌≡◌, ℕ, ◌/◌, true, cond, not, leb, List, Result, sym, refl, subst, inl, inr}
 use Rattle.std.proofs.lemmas.Bool.{cond_both, and_parts, not-true}
 use Rattle.network.specs.Lists.{In}
-use Rattle.network.specs.Values.{simplified}
 use Rattle.network.specs.Lemmas.{lemmas}
 use Rattle.image.specs.declared.fault.Fault.{Fault}
-use Rattle.rules.specs.Store.{live_clauses, index_on, index_off}
-use Rattle.rules.specs.Work.{Work, storing, own_of, each, nodes_of, add_simplified, add, clear_all}
-use Rattle.rules.specs.Const.{Fate, goes, shrinks, stays, fate, judged_by, judged, const_node, if_known, const_drop, const_simplify}
-use Rattle.rules.specs.Bve.{all_resolvents, use_count, taken_out, eliminated, passed_over, given_up, attempted, attempt, least, but, attempts, bve_simplify}
+use Rattle.rules.specs.Store.{live_clauses}
+use Rattle.rules.specs.Work.{Work, add}
+use Rattle.rules.specs.Const.{const_simplify}
+use Rattle.rules.specs.Bve.{all_resolvents, taken_out, eliminated, passed_over, given_up, attempted, attempt, bve_simplify}
 use Rattle.rules.specs.Subsume.{subsume_simplify}
 use Rattle.rules.specs.Turns.{takes_out}
 use Rattle.rules.specs.Calls.{need, lent, half, const_answer, bve_answer, subsume_answer, simplify_answer, simplified_work, finalized, with_live, with_out, Call, const_call, bve_call, subsume_call, simplify_call, finalize_call, called}

@@ -1,17 +1,14 @@
 -- Every call of a store and every pass keeps the meaning of the store lawful, and its room. Assumes nothing.
-use Rattle.std.proofs.Common.{◌≡◌, ℕ, zero, suc, ◌+◌, ◌*◌, ◌<◌, ◌≤◌, Bool, true, false, not, ◌&&◌, eqb, ltb, ◌⊎◌, List, [], ◌∷◌, map, length, get_or, Some, None, Option, refl, ◌∙◌, subst, inl, inr, ⊎_elim, arith}
-use Rattle.std.proofs.lemmas.Bool.{cases_eq, cond_both, both_ways, ltb-true}
+use Rattle.std.proofs.Common.{◌≡◌, ℕ, zero, suc, ◌+◌, ◌<◌, ◌≤◌, Bool, true, false, not, ◌&&◌, eqb, ltb, ◌⊎◌, List, [], ◌∷◌, map, length, refl, ◌∙◌, subst, inl, inr, ⊎_elim, arith}
+use Rattle.std.proofs.lemmas.Bool.{cases_eq, both_ways, ltb-true}
 use Rattle.std.proofs.lemmas.Bool.Decides.{nat_tests}
 use Rattle.network.specs.Lists.{In}
-use Rattle.network.specs.Values.{simplified}
-use Rattle.network.specs.Lemmas.{lemmas}
-use Rattle.rules.specs.Store.{Ref, live, dead, Meaning, is_at, is_dead, from, sum_of, how_many, count, live_clauses, kept_clauses, entered, removed, retired, shortened, after_retired, swap_out, index_on, index_off, present, enterable, droppable, enter, remove, retire, shorten}
+use Rattle.rules.specs.Store.{Ref, live, dead, Meaning, is_at, is_dead, from, sum_of, how_many, count, live_clauses, kept_clauses, entered, removed, retired, shortened, index_on, index_off, present, enterable, droppable, enter, remove, retire, shorten}
 use Rattle.rules.specs.Lawful.{Lawful, ChangesLawful, PassesLawful}
-use Rattle.rules.specs.Work.{Work, storing, own_of, each, nodes_of, literals_of, add_simplified, add, cleared, clear, clear_all}
-use Rattle.rules.specs.Const.{Fate, goes, shrinks, stays, fate, judged_by, judged, const_node, if_known, const_drop, const_simplify}
-use Rattle.rules.specs.Bve.{all_resolvents, use_count, use_marks, uses_cleared, taken_out, eliminated, passed_over, given_up, attempted, attempt, least, but, attempts, bve_simplify}
-use Rattle.rules.specs.Subsume.{Verdict, apart, subsumed, merged, both_lost, long_lost, verdict, place_after, on_verdict, checked_from, checked, walk_on, walked, walk, subsume_simplify}
-use Rattle.rules.specs.Subsume as rule
+use Rattle.rules.specs.Work.{Work, each, literals_of, add}
+use Rattle.rules.specs.Const.{const_node, const_simplify}
+use Rattle.rules.specs.Bve.{taken_out, attempt, bve_simplify}
+use Rattle.rules.specs.Subsume.{walk, subsume_simplify}
 use Rattle.rules.proofs.HowMany.{count_more, count_none, count_either}
 use Rattle.rules.proofs.Along.{Chains, each_along, entry_cases, allowed_along, taken_out_along, Steps, node_along, const_along, attempt_along, bve_along, walks_along}
 use Rattle.rules.proofs.Lawful.{own_small, entered_lawful, removed_lawful, retired_lawful, shortened_lawful, index_on_lawful, index_on_room, index_off_lawful, emptied_lawful}

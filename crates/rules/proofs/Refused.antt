@@ -1,5 +1,5 @@
 -- What a refused call leaves. Assumes nothing.
-use Rattle.std.proofs.Common.{◌≡◌, ℕ, ◌/◌, Bool, true, false, cond, leb, ◌⊎◌, List, length, Ok, Err, Result, sym, refl, inl, inr, arith}
+use Rattle.std.proofs.Common.{◌≡◌, ℕ, ◌/◌, Bool, true, false, cond, leb, ◌⊎◌, List, length, Ok, Err, Result, sym, refl, inl, inr}
 use Rattle.std.proofs.lemmas.Bool.{cond_both}
 use Rattle.image.specs.Faults.{fault}
 use Rattle.image.specs.declared.fault.Fault.{Fault}

@@ -1,5 +1,5 @@
 -- Whole runs, by computing. Assumes nothing.
-use Rattle.std.proofs.Common.{refl, flat_map}
+use Rattle.std.proofs.Common.{refl}
 use Rattle.network.specs.Assignments.{opposite, lit, put}
 use Rattle.network.specs.Resolution.{merge, resolve}
 use Rattle.network.specs.Subsumption.{fits_from, fits}

@@ -1,5 +1,5 @@
 -- The rules at small cases, by computing. Assumes nothing.
-use Rattle.std.proofs.Common.{refl, flat_map}
+use Rattle.std.proofs.Common.{refl}
 use Rattle.network.specs.Assignments.{opposite, lit, put}
 use Rattle.network.specs.Resolution.{merge, resolve}
 use Rattle.network.specs.Subsumption.{fits_from, fits}

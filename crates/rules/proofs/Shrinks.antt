@@ -1,5 +1,5 @@
 -- The cost of a node: it is no more than the live clauses, and taking the node out makes room for its resolvents. Assumes nothing.
-use Rattle.std.proofs.Common.{◌≡◌, ℕ, zero, suc, ◌+◌, ◌-◌, ◌*◌, ◌<◌, ◌≤◌, Bool, true, false, eqb, ltb, List, [], ◌∷◌, ◌++◌, length, get_or, replicate, Some, None, Option, refl, ap, ◌∙◌, inl, inr, ⊎_elim, arith}
+use Rattle.std.proofs.Common.{◌≡◌, ℕ, zero, suc, ◌+◌, ◌*◌, ◌<◌, ◌≤◌, Bool, true, false, eqb, ltb, List, [], ◌∷◌, length, Some, None, Option, refl, ap, ◌∙◌, inl, inr, ⊎_elim, arith}
 use Rattle.std.proofs.lemmas.Bool.{cond_both}
 use Rattle.network.specs.Assignments.{node, opposite}
 use Rattle.network.specs.Lists.{In}
@@ -7,11 +7,11 @@ use Rattle.network.specs.Clauses.{without}
 use Rattle.network.specs.Values.{nothing}
 use Rattle.network.specs.Subsumption.{fits}
 use Rattle.network.specs.Lemmas.{placed, by_length, Swept, keeping, once_more, met, swept, lemmas_from, lemmas}
-use Rattle.rules.specs.Store.{Meaning, live_clauses, kept_clauses, removed, swap_out}
+use Rattle.rules.specs.Store.{Meaning, live_clauses, kept_clauses, removed}
 use Rattle.rules.specs.Index.{Indexed}
 use Rattle.rules.specs.Lawful.{Lawful}
-use Rattle.rules.specs.Work.{Work, each, literals_of, cleared, clear, clear_all}
-use Rattle.rules.specs.Bve.{cost, use_marks, uses_cleared, taken_out}
+use Rattle.rules.specs.Work.{Work, clear}
+use Rattle.rules.specs.Bve.{cost, taken_out}
 use Rattle.rules.proofs.Places.{held_in}
 use Rattle.rules.proofs.Verdicts.{last_in}
 use Rattle.rules.proofs.TakenOut.{cost_zero, out_to}
@@ -119,6 +119,7 @@ module _ (v : ℕ) (W : Work) (L : Lawful W.store) (I : Indexed W.store) (bound 
   -- a clause removed for each that the node costs
   pub taken_out_less : live_clauses (taken_out v W).store + cost W.store v ≤ live_clauses W.store
   taken_out_less = omega (arith, (taken_out_fewer v W F).1, let N = (taken_out_fewer v W F).0 in cost_zero v (taken_out v W).store N.index N.placed N.filled (λ l C i. (out_to v W I F.placed F.filled bound (node l) C (held_in (taken_out v W).store l C i)).1))
+
 -- a node costs no more than there are live clauses
 pub cost_live : (M : Meaning) → Lawful M → Indexed M → (v : ℕ) → cost M v ≤ live_clauses M
 cost_live M L I v = omega (arith, taken_out_less v all L I (λ l E i. omega (arith, (formed_parts E (L.formed l E i)).small, L.placed l E i)))

@@ -1,16 +1,14 @@
 -- How many clauses a subsume_simplify leaves, and how many words are handed out. Assumes nothing.
-use Rattle.std.proofs.Common.{◌≡◌, ℕ, zero, suc, ◌+◌, ◌*◌, ◌≤◌, Bool, true, false, ◌&&◌, eqb, ltb, List, [], ◌∷◌, ◌++◌, map, length, get_or, Some, None, Option, sym, refl, subst, inl, inr, ⊎_elim, arith, flat_map}
-use Rattle.std.proofs.lemmas.Bool.{cond_both}
+use Rattle.std.proofs.Common.{◌≡◌, ℕ, zero, suc, ◌+◌, ◌*◌, ◌≤◌, Bool, true, false, List, [], ◌∷◌, ◌++◌, map, length, Some, None, Option, sym, refl, subst, inl, inr, ⊎_elim, arith, flat_map}
 use Rattle.std.proofs.lemmas.List.{length-append}
 use Rattle.network.specs.Lists.{In}
 use Rattle.network.specs.Values.{unit_of}
 use Rattle.network.proofs.Lists.{in_cases}
 use Rattle.image.specs.Runs.{written}
-use Rattle.rules.specs.Store.{Ref, live, dead, Meaning, from, literals, sum_of, live_clauses, after_retired, retire, shorten, index_on, index_off}
+use Rattle.rules.specs.Store.{from, literals, sum_of, live_clauses, index_on}
 use Rattle.rules.specs.Lawful.{Lawful}
 use Rattle.rules.specs.Work.{Work, own_of, each, literals_of}
-use Rattle.rules.specs.Subsume.{Verdict, apart, subsumed, merged, both_lost, long_lost, verdict, place_after, on_verdict, checked_from, checked, walk_on, walked, walk, subsume_simplify}
-use Rattle.rules.specs.Subsume as rule
+use Rattle.rules.specs.Subsume.{walk, subsume_simplify}
 use Rattle.rules.specs.Calls.{only_unit, handed_out, runs_out, words_out}
 use Rattle.rules.proofs.HowMany.{sum_part}
 use Rattle.rules.proofs.Along.{fewer_chains, walks_along}

@@ -12,8 +12,7 @@ use Rattle.network.proofs.Levels.{below_agree}
 use Rattle.network.proofs.Networks.{locals, clause_at}
 use Rattle.network.proofs.Ordered.{owned_within}
 use Rattle.network.proofs.Rows.{Distinct, pigeons}
-use Rattle.image.specs.Headers.{top, run}
-use Rattle.image.specs.Runs.{clauses}
+use Rattle.image.specs.Headers.{top}
 use Rattle.image.specs.Faults.{fault, tested}
 use Rattle.image.specs.declared.fault.Fault.{Fault}
 use Rattle.intake.specs.Answers.{accepts, loose_nodes, first_of}

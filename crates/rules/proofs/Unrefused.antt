@@ -148,6 +148,7 @@ module _ (first : Network) (n : ℕ) (gone frozen : Assignment) (small : n ≤ 1
         λ T h. ⊎_elim (λ e. subst (λ U. AllAccepted (node_entries U.at U.before)) (sym e) d.accepted) (λ j. f T (subst (λ U. In T (turns (from (suc i) t) U)) d.agrees j)) h,
         omega (arith, d.kept, same, k),
       )
+
 -- valued nodes lose clauses
 drop_kept : (n : ℕ) (W : Work) → kept_clauses (const_drop n W).store ≤ kept_clauses W.store
 unfolding const_drop
@@ -165,6 +166,7 @@ pub pairs : (f : ℕ → ℕ) (t i : ℕ) → sum_of (map (λ k. f (2 * k) + f (
 pairs f zero i = refl
 pairs f (suc t) i = subst (λ m. f (2 * i) + f (2 * i + 1) + sum_of (map (λ k. f (2 * k) + f (2 * k + 1)) (from (suc i) t)) ≡ sum_of (map f (from (2 * i) m))) {x = suc (suc (2 * t))} {y = 2 * suc t} (omega arith)
     (omega (arith, ap f {x = 2 * i + 1} {y = suc (2 * i)} (omega arith), pairs f t (suc i) ∙ ap (λ m. sum_of (map f (from m (2 * t)))) {x = 2 * suc i} {y = suc (suc (2 * i))} (omega arith)))
+
 module _ (first : Network) (W : Work) (G : Good first W) (L : Lawful W.store) (h : live_clauses W.store ≤ W.store.room / 2) where
   abbrev W₀ : Work
   W₀ = storing W (index_off W.store)
@@ -233,6 +235,7 @@ module _ (first : Network) where
     few : given_up W v Rs ≡ false → length (lemmas Rs) ≤ cost W.store v
     unfolding Rs
     few f = omega (arith, lemmas_length (all_resolvents W.store v), (kept_few W v f).1)
+
     -- a node with a cost is one of the work's, and was not taken out before
     eliminated_accepted : passed_over W v ≡ false → given_up W v Rs ≡ false → (eliminated v Rs W ≡ plain.eliminated v Rs W) × AllAccepted (entries (lemmas Rs) (taken_out v W))
     unfolding eliminated plain.eliminated Rs
@@ -278,6 +281,7 @@ module _ (first : Network) where
         (λ e. cond_both (given_up W v (all_resolvents W.store v)) W (eliminated v (all_resolvents W.store v) W) (λ N. live_clauses N.store ≤ live_clauses W.store) (λ f. omega arith)
         (λ f. subst (λ N. live_clauses N.store ≤ live_clauses W.store) (sym (eliminated_accepted e f).0) (unfold plain.eliminated in
         (omega (arith, out_less, few f, adds_live (lemmas (all_resolvents W.store v)) (taken_out v W))))))
+
     pub attempt_both : GoodIndexed first (attempt v W) × Lawful (attempt v W).store
     attempt_both = (subst (GoodIndexed first) (sym attempt_agrees) (attempt_good first v W G), (attempt_keeps v W L).0)
 

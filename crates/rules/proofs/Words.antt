@@ -121,6 +121,7 @@ module _ (W : Work) where
       sum_more : (t i : ℕ) → sum_of (map (λ n. length (handed_out W n)) (from i (suc t))) ≡ sum_of (map (λ n. length (handed_out W n)) (from i t)) + length (handed_out W (i + t))
       sum_more zero i = omega (arith, ap (λ n. length (handed_out W n)) {x = i} {y = i + 0} (omega arith))
       sum_more (suc t) i = omega (arith, sum_more t (suc i), ap (λ n. length (handed_out W n)) {x = suc i + t} {y = i + suc t} (omega arith))
+
   module _ (small : W.top ≤ 1023) (zero_out : handed_out W 0 ≡ (1 ∷ []) ∷ []) where
     network_read : (n : ℕ) → n ≤ W.top → taken_in ws n ≡ handed_out W n
     network_read zero l = sym zero_out

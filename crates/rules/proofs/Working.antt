@@ -2,11 +2,11 @@
 use Rattle.std.proofs.Common.{◌≡◌, ℕ, ◌≤◌, not, List, [], ◌∷◌, length, sym, ◌∙◌, subst, ⊎_elim, arith}
 use Rattle.std.proofs.lemmas.Bool.{and_parts, not-true}
 use Rattle.network.specs.Lists.{In}
-use Rattle.rules.specs.Store.{live_clauses, index_off}
+use Rattle.rules.specs.Store.{index_off}
 use Rattle.rules.specs.Lawful.{Lawful}
 use Rattle.rules.specs.Work.{Work, storing, own_of, nodes_of}
 use Rattle.rules.specs.Const.{const_node}
-use Rattle.rules.specs.Bve.{cost, all_resolvents, passed_over, given_up}
+use Rattle.rules.specs.Bve.{all_resolvents, passed_over, given_up}
 use Rattle.rules.specs.Turns.{Turn, turns, const_turns}
 use Rattle.rules.specs.Sizes.{WordsSuffice}
 use Rattle.rules.proofs.Lawful.{own_few}
