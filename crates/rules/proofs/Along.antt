@@ -1,10 +1,11 @@
 -- What holds over each step holds over a whole pass: of steps in turn, of clearing, of the three passes. Assumes nothing.
 use Rattle.std.proofs.Common.{◌≡◌, ℕ, zero, suc, ◌+◌, ◌*◌, ◌<◌, ◌≤◌, Bool, true, false, ◌&&◌, eqb, ltb, List, [], ◌∷◌, map, length, get_or, Some, None, Option, refl, ◌∙◌}
+use Rattle.std.specs.List.{swap_remove}
 use Rattle.std.proofs.Math.Nat.{le_refl, le_trans}
 use Rattle.std.proofs.lemmas.Bool.{cond_both, ltb-true}
 use Rattle.network.specs.Values.{simplified}
 use Rattle.network.specs.Lemmas.{lemmas}
-use Rattle.rules.specs.Store.{Ref, live, dead, Meaning, after_retired, removed, swap_out, allowed, retire, shorten, index_on, index_off}
+use Rattle.rules.specs.Store.{Ref, live, dead, Meaning, after_retired, removed, allowed, retire, shorten, index_on, index_off}
 use Rattle.rules.specs.Work.{Work, storing, taking_out, own_of, each, nodes_of, literals_of, add_simplified, add, cleared, clear, clear_all}
 use Rattle.rules.specs.Const.{Fate, goes, shrinks, stays, fate, judged_by, judged, const_node, if_known, const_drop, const_simplify}
 use Rattle.rules.specs.Bve.{all_resolvents, use_count, use_marks, uses_cleared, taken_out, eliminated, passed_over, given_up, attempted, attempt, least, but, attempts, bve_simplify}
@@ -50,8 +51,8 @@ module _ (R : Meaning → Meaning → Type 0) (o : Chains R) (removes : (l i : �
   unfolding cleared
   cleared_along zero l i marks M = o.same M
   cleared_along (suc f) l i marks M = cond_both (ltb i (length (M.own l))) _ M (R M)
-      (λ e. cond_both (get_or marks i false) (cleared f l i (swap_out false i marks) (removed l i M)) (cleared f l (suc i) marks M) (R M)
-      (λ t. o.next M (removed l i M) (cleared f l i (swap_out false i marks) (removed l i M)) (removes l i M (ltb-true i (length (M.own l)) e)) (cleared_along f l i (swap_out false i marks) (removed l i M)))
+      (λ e. cond_both (get_or marks i false) (cleared f l i (swap_remove marks i false) (removed l i M)) (cleared f l (suc i) marks M) (R M)
+      (λ t. o.next M (removed l i M) (cleared f l i (swap_remove marks i false) (removed l i M)) (removes l i M (ltb-true i (length (M.own l)) e)) (cleared_along f l i (swap_remove marks i false) (removed l i M)))
       (λ t. cleared_along f l (suc i) marks M))
       (λ e. o.same M)
 

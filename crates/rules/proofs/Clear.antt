@@ -1,9 +1,10 @@
 -- Marked clauses cleared from a list. Assumes nothing.
 use Rattle.std.proofs.Common.{◌≡◌, ℕ, zero, suc, ◌+◌, ◌-◌, ◌<◌, ◌≤◌, Bool, true, false, ltb, List, [], ◌∷◌, ◌++◌, length, get_or, replicate, sym, refl, ap, ◌∙◌, subst, ⊎_elim, arith}
+use Rattle.std.specs.List.{swap_remove}
 use Rattle.std.proofs.lemmas.Bool.{cases_eq, cond_both, both_ways, ltb-true, ltb-false}
 use Rattle.std.proofs.lemmas.List.{get_or-replicate, length-append, length-replicate}
 use Rattle.network.specs.Lists.{In}
-use Rattle.rules.specs.Store.{Meaning, swap_out, removed}
+use Rattle.rules.specs.Store.{Meaning, removed}
 use Rattle.rules.specs.Index.{Indexed}
 use Rattle.rules.specs.Work.{cleared, clear, clear_all}
 use Rattle.rules.proofs.Places.{in_at, at_in}
@@ -32,7 +33,7 @@ module _ (l : ℕ) where
   }
 
   module _ (i : ℕ) (marks : List Bool) (M : Meaning) (len : length marks ≡ length (M.own l)) (li : i < length (M.own l)) (t : get_or marks i false ≡ true) where
-    swapped_left : (E : List ℕ) → Left (swap_out false i marks) ((removed l i M).own l) E → Left marks (M.own l) E
+    swapped_left : (E : List ℕ) → Left (swap_remove marks i false) ((removed l i M).own l) E → Left marks (M.own l) E
     swapped_left E (j, lj, u, e) =
         let lt : j < length (M.own l) - 1 = omega (arith, removed_length M l i) in
         let lt' : j < length marks - 1 = omega (arith, len) in
@@ -40,13 +41,13 @@ module _ (l : ℕ) where
         (λ q. (
           length (M.own l) - 1,
           omega arith,
-          ap (λ m. get_or marks (m - 1) false) (sym len) ∙ sym (swap_here false i marks (omega (arith, q))) ∙ ap (λ g. get_or (swap_out false i marks) g false) (sym q) ∙ u,
+          ap (λ m. get_or marks (m - 1) false) (sym len) ∙ sym (swap_here false i marks (omega (arith, q))) ∙ ap (λ g. get_or (swap_remove marks i false) g false) (sym q) ∙ u,
           sym (swap_here [] i (M.own l) (omega (arith, q))) ∙ ap (λ xs. get_or xs i []) (sym (removed_own M l i)) ∙ ap (λ g. get_or ((removed l i M).own l) g []) (sym q) ∙ e,
         ))
         (λ a. (j, omega arith, sym (swap_other false i j marks lt' a) ∙ u, sym (swap_other [] i j (M.own l) lt a) ∙ ap (λ xs. get_or xs j []) (sym (removed_own M l i)) ∙ e))
         (cases_eq j i)
 
-    swapped_stays : (E : List ℕ) → Left marks (M.own l) E → Left (swap_out false i marks) ((removed l i M).own l) E
+    swapped_stays : (E : List ℕ) → Left marks (M.own l) E → Left (swap_remove marks i false) ((removed l i M).own l) E
     swapped_stays E (j, lj, u, e) =
         let ne : j ≡ i → ⊥ = λ q. both_ways (get_or marks i false) (ap (λ g. get_or marks g false) (sym q) ∙ u) t in
         ⊎_elim
@@ -60,10 +61,10 @@ module _ (l : ℕ) where
         (j, omega (arith, removed_length M l i), swap_other false i j marks (omega (arith, len)) ne ∙ u, ap (λ xs. get_or xs j []) (removed_own M l i) ∙ swap_other [] i j (M.own l) lt ne ∙ e))
         (cases_eq j (length (M.own l) - 1))
 
-    still_unmarked : ((j : ℕ) → j < i → get_or marks j false ≡ false) → (j : ℕ) → j < i → get_or (swap_out false i marks) j false ≡ false
+    still_unmarked : ((j : ℕ) → j < i → get_or marks j false ≡ false) → (j : ℕ) → j < i → get_or (swap_remove marks i false) j false ≡ false
     still_unmarked h j lj = swap_other false i j marks (omega (arith, len)) (λ q. omega arith) ∙ h j lj
 
-    swap_cleared : (N : Meaning) → Cleared l (swap_out false i marks) (removed l i M) N → Cleared l marks M N
+    swap_cleared : (N : Meaning) → Cleared l (swap_remove marks i false) (removed l i M) N → Cleared l marks M N
     swap_cleared N c = record {
       apart = λ k a. c.apart k a ∙ removed_apart M l i k a;
       left = λ E h. swapped_left E (c.left E h);
@@ -78,9 +79,9 @@ module _ (l : ℕ) where
   cleared_is zero i marks M len u le = done i marks M u (omega arith)
   cleared_is (suc f) i marks M len u le = cond_both (ltb i (length (M.own l))) _ M (Cleared l marks M)
       (λ e. let li = ltb-true i (length (M.own l)) e in
-      cond_both (get_or marks i false) (cleared f l i (swap_out false i marks) (removed l i M)) (cleared f l (suc i) marks M) (Cleared l marks M)
-      (λ t. swap_cleared i marks M len li t (cleared f l i (swap_out false i marks) (removed l i M))
-      (cleared_is f i (swap_out false i marks) (removed l i M) (omega (arith, swap_length false i marks, removed_length M l i, len)) (still_unmarked i marks M len li t u) (omega (arith, removed_length M l i))))
+      cond_both (get_or marks i false) (cleared f l i (swap_remove marks i false) (removed l i M)) (cleared f l (suc i) marks M) (Cleared l marks M)
+      (λ t. swap_cleared i marks M len li t (cleared f l i (swap_remove marks i false) (removed l i M))
+      (cleared_is f i (swap_remove marks i false) (removed l i M) (omega (arith, swap_length false i marks, removed_length M l i, len)) (still_unmarked i marks M len li t u) (omega (arith, removed_length M l i))))
       (λ t. cleared_is f (suc i) marks M len (λ j lj. ⊎_elim (λ q. ap (λ g. get_or marks g false) q ∙ t) (λ a. u j (omega (arith, a))) (cases_eq j i)) (omega arith)))
       (λ e. done i marks M u (ltb-false i (length (M.own l)) e))
 

@@ -1,26 +1,24 @@
 -- Changes of a store keep its index. Assumes nothing.
 use Rattle.std.proofs.Common.{◌≡◌, ℕ, zero, suc, ◌+◌, ◌-◌, ◌<◌, ◌≤◌, true, false, cond, not, ◌&&◌, eqb, ◌⊎◌, List, [], ◌∷◌, ◌++◌, map, length, get_or, set, filter, sym, refl, ap, ◌∙◌, subst, inl, inr, ⊎_elim, arith, flat_map}
+use Rattle.std.specs.List.{swap_remove}
 use Rattle.std.proofs.lemmas.Bool.{cases_eq, cases_lt, cases_Bool, cond_both, cond-true, cond-false, not-true, not_from_false, eq-eqb}
 use Rattle.std.proofs.lemmas.Bool.Decides.{nat_tests}
 use Rattle.std.proofs.lemmas.List.{get_or-take, length-take-le, get_or-set_other, get_or-set_same, get_or_append_left, get_or_push, length-append, length-set}
 use Rattle.network.specs.Lists.{In}
 use Rattle.network.specs.Clauses.{has, last, front}
 use Rattle.network.proofs.Lists.{in_left, in_right, in_cases, in_kept, kept_in, in_map, map_in, any_from, in_flat_map, flat_map_in, has_in}
-use Rattle.rules.specs.Store.{Ref, live, dead, Meaning, is_at, from, up_to, literals, swap_out, with_use, entered, moved_ref, removed, with_first, places, index_on}
+use Rattle.rules.specs.Store.{Ref, live, dead, Meaning, is_at, from, up_to, literals, with_use, entered, moved_ref, removed, with_first, places, index_on}
 use Rattle.rules.specs.Index.{Indexed}
 use Rattle.rules.proofs.Places.{in_at, changed_here, changed_apart}
 
 module _ {X : Type 0} where
-  pub swap_length : (d : X) (i : ℕ) (xs : List X) → length (swap_out d i xs) ≡ length xs - 1
-  unfolding swap_out
+  pub swap_length : (d : X) (i : ℕ) (xs : List X) → length (swap_remove xs i d) ≡ length xs - 1
   swap_length d i xs = length-take-le (length xs - 1) (set xs i (get_or xs (length xs - 1) d)) (omega (arith, length-set xs i (get_or xs (length xs - 1) d)))
 
-  pub swap_here : (d : X) (i : ℕ) (xs : List X) → i < length xs - 1 → get_or (swap_out d i xs) i d ≡ get_or xs (length xs - 1) d
-  unfolding swap_out
+  pub swap_here : (d : X) (i : ℕ) (xs : List X) → i < length xs - 1 → get_or (swap_remove xs i d) i d ≡ get_or xs (length xs - 1) d
   swap_here d i xs l = get_or-take (length xs - 1) (set xs i (get_or xs (length xs - 1) d)) i d l ∙ get_or-set_same xs i (get_or xs (length xs - 1) d) d (omega arith)
 
-  pub swap_other : (d : X) (i j : ℕ) (xs : List X) → j < length xs - 1 → (j ≡ i → ⊥) → get_or (swap_out d i xs) j d ≡ get_or xs j d
-  unfolding swap_out
+  pub swap_other : (d : X) (i j : ℕ) (xs : List X) → j < length xs - 1 → (j ≡ i → ⊥) → get_or (swap_remove xs i d) j d ≡ get_or xs j d
   swap_other d i j xs l a = get_or-take (length xs - 1) (set xs i (get_or xs (length xs - 1) d)) j d l ∙ get_or-set_other xs i j (get_or xs (length xs - 1) d) d a
 
 pub live_lit : (a b c d : ℕ) → live a b ≡ live c d → a ≡ c
@@ -48,13 +46,13 @@ pub moved_not : (l m i a b : ℕ) → is_at l m (live a b) ≡ false → moved_r
 moved_not l m i a b e = cond-false (is_at l m (live a b)) (live l i) (live a b) e
 
 module _ (M : Meaning) (l i : ℕ) where
-  pub removed_own : (removed l i M).own l ≡ swap_out [] i (M.own l)
+  pub removed_own : (removed l i M).own l ≡ swap_remove (M.own l) i []
   unfolding removed
-  removed_own = changed_here M.own l (swap_out [] i (M.own l))
+  removed_own = changed_here M.own l (swap_remove (M.own l) i [])
 
   pub removed_apart : (k : ℕ) → (k ≡ l → ⊥) → (removed l i M).own k ≡ M.own k
   unfolding removed
-  removed_apart k a = changed_apart M.own l (swap_out [] i (M.own l)) k a
+  removed_apart k a = changed_apart M.own l (swap_remove (M.own l) i []) k a
 
   pub removed_length : length ((removed l i M).own l) ≡ length (M.own l) - 1
   removed_length = ap length removed_own ∙ swap_length [] i (M.own l)

@@ -1,10 +1,11 @@
 -- How many clauses are live after a change. Assumes nothing.
 use Rattle.std.proofs.Common.{◌≡◌, ℕ, suc, ◌-◌, ◌<◌, ◌≤◌, List, [], ◌∷◌, map, length, get_or, sym, refl, ap, ◌∙◌, subst, ⊎_elim, arith}
+use Rattle.std.specs.List.{swap_remove}
 use Rattle.std.proofs.lemmas.Bool.{cases_eq, cond_both, ltb-true}
 use Rattle.std.proofs.lemmas.List.{length-append}
 use Rattle.network.specs.Lists.{In}
 use Rattle.network.specs.Clauses.{last}
-use Rattle.rules.specs.Store.{Meaning, literals, sum_of, live_clauses, kept_clauses, entered, removed, retired, shortened, swap_out, index_on, index_off, present, droppable, retire, shorten}
+use Rattle.rules.specs.Store.{Meaning, literals, sum_of, live_clauses, kept_clauses, entered, removed, retired, shortened, index_on, index_off, present, droppable, retire, shorten}
 use Rattle.rules.proofs.Places.{in_at, at_in, closed_length, retired_own, retired_apart, shortened_length}
 use Rattle.rules.proofs.Index.{removed_own, removed_apart, removed_length, swap_length, swap_here, swap_other, entered_own, entered_apart}
 use Rattle.rules.proofs.Along.{fewer_chains, allowed_along}
@@ -31,11 +32,11 @@ fewer_at M N l a h = sum_le (λ k. length (N.own k)) (λ k. length (M.own k)) 20
 pub removed_live : (M : Meaning) (l i : ℕ) → l < 2048 → i < length (M.own l) → suc (live_clauses (removed l i M)) ≡ live_clauses M
 removed_live M l i b li = less_at M (removed l i M) l b (removed_apart M l i) (omega (arith, removed_length M l i))
 
-swap_part : (i : ℕ) (xs : List (List ℕ)) (E : List ℕ) → In E (swap_out [] i xs) → In E xs
+swap_part : (i : ℕ) (xs : List (List ℕ)) (E : List ℕ) → In E (swap_remove xs i []) → In E xs
 swap_part i xs E h =
-    let (j, lj, e) = at_in (swap_out [] i xs) E [] h in
+    let (j, lj, e) = at_in (swap_remove xs i []) E [] h in
     let lt : j < length xs - 1 = omega (arith, swap_length [] i xs) in
-    ⊎_elim (λ q. subst (λ D. In D xs) (sym (swap_here [] i xs (omega (arith, q))) ∙ ap (λ g. get_or (swap_out [] i xs) g []) (sym q) ∙ e) (in_at xs (length xs - 1) [] (omega arith)))
+    ⊎_elim (λ q. subst (λ D. In D xs) (sym (swap_here [] i xs (omega (arith, q))) ∙ ap (λ g. get_or (swap_remove xs i []) g []) (sym q) ∙ e) (in_at xs (length xs - 1) [] (omega arith)))
     (λ a. subst (λ D. In D xs) (sym (swap_other [] i j xs lt a) ∙ e) (in_at xs j [] (omega arith))) (cases_eq j i)
 
 pub removed_part : (M : Meaning) (l i k : ℕ) (E : List ℕ) → In E ((removed l i M).own k) → In E (M.own k)

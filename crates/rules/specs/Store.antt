@@ -1,7 +1,7 @@
 -- What a store of clauses means, and what each change makes of that.
 -- Assumes nothing.
 use Rattle.std.specs.Prelude.{ℕ, zero, suc, ◌+◌, ◌-◌, Bool, true, false, cond, not, ◌&&◌, List, [], ◌∷◌, ◌++◌, map, length, take, drop, filter, ◌==◌, nat_lt, slice_index_or, slice_set, flat_map}
-use Rattle.std.specs.List.{list_any}
+use Rattle.std.specs.List.{list_any, swap_remove}
 use Rattle.network.specs.Clauses.{without, has, last, front, well_formed}
 
 -- what a list of uses refers to: place i of the clauses whose last literal is l, or a clause that is there no more
@@ -71,10 +71,6 @@ clause_at M l i = slice_index_or (M.own l) i []
 unfoldable pub changed : {X : Type 0} → (ℕ → X) → ℕ → X → ℕ → X
 changed f l x k = cond (k == l) x (f k)
 
--- the list without its place i, to which the last element comes
-unfoldable pub swap_out : {X : Type 0} → X → ℕ → List X → List X
-swap_out d i xs = take (length xs - 1) (slice_set xs i (slice_index_or xs (length xs - 1) d))
-
 -- the list without its place i, order kept
 unfoldable pub close_up : {X : Type 0} → ℕ → List X → List X
 close_up i xs = take i xs ++ drop (suc i) xs
@@ -108,7 +104,7 @@ unfoldable pub removed : ℕ → ℕ → Meaning → Meaning
 removed l i M = record {
   room = M.room;
   indexed = M.indexed;
-  own = changed M.own l (swap_out [] i (M.own l));
+  own = changed M.own l (swap_remove (M.own l) i []);
   uses = λ x. map (moved_ref l (length (M.own l) - 1) i) (filter (λ r. not (is_at l i r)) (M.uses x));
   dead_clauses = M.dead_clauses;
 }
