@@ -28,9 +28,6 @@ AllShort M = (l : ℕ) (C : List ℕ) → In C (M.own l) → length C ≤ 32
 abbrev pub Grows : Meaning → Meaning → Type 0
 Grows M N = (l : ℕ) (C : List ℕ) → In C (M.own l) → In C (N.own l)
 
-some_same : (S T : List ℕ) → ◌≡◌ {A = Option (List ℕ)} (Some S) (Some T) → S ≡ T
-some_same S T e = cc
-
 -- ## One entry
 
 entered_grows : (S : List ℕ) (M : Meaning) → Grows M (entered S M)

@@ -139,9 +139,6 @@ module _ (first : Network) (n : ℕ) (gone frozen : Assignment) where
     not_gone : (l : ℕ) (C : List ℕ) → In C (W.store.own l) → (x : ℕ) → In x C → gone (node x) ≡ false
     not_gone l C i x j = ⊎_elim (λ g. absurd (c.kc.absent (node x) g (node l) C (in_plus l C i) x j refl)) (λ g. g) (cases_Bool (gone (node x)))
 
-    own_owner : (l : ℕ) (C : List ℕ) → In C (W.store.own l) → owner C ≡ node l
-    own_owner l C i = c.kc.clauses.owned (node l) C (in_plus l C i)
-
     pub last_here : (l : ℕ) (C : List ℕ) → In C (W.store.own l) → In (last C) C
     last_here l C i = last_in C (not_nil first P n nothing gone frozen c.kc (node l) C (in_plus l C i))
 

@@ -3,13 +3,14 @@ use Rattle.std.proofs.Common.{◌≡◌, ℕ, zero, suc, ◌+◌, ◌-◌, ◌<�
 use Rattle.std.specs.List.{list_any}
 use Rattle.std.proofs.lemmas.Bool.{cases_eq, cases_lt, cases_Bool, cond_both, both_ways, and_parts, ltb-true, not-true}
 use Rattle.std.proofs.lemmas.Bool.Decides.{nat_tests}
+use Rattle.std.proofs.lemmas.List.Edits.{length-remove}
 use Rattle.std.proofs.lemmas.List.{length-append}
 use Rattle.network.specs.Lists.{In}
 use Rattle.network.specs.Clauses.{has, last, front, without, well_formed}
 use Rattle.network.proofs.Lists.{in_cases, kept_in, map_in, any_none, flat_map_in, has_in}
 use Rattle.rules.specs.Store.{Ref, live, dead, Meaning, is_at, is_dead, from, literals, sum_of, how_many, live_clauses, kept_clauses, emptied, with_use, entered, moved_ref, removed, after_retired, referred, retired, shortened, places, index_on, index_off, present, enterable, droppable}
 use Rattle.rules.specs.Lawful.{Lawful}
-use Rattle.rules.proofs.Places.{in_at, closed_in, closed_length, set_in, retired_own, retired_apart, shortened_own, shortened_apart, shortened_length}
+use Rattle.rules.proofs.Places.{in_at, closed_in, set_in, retired_own, retired_apart, shortened_own, shortened_apart, shortened_length}
 use Rattle.rules.proofs.Index.{live_lit, live_place, live_dead, at_is, moved_here, moved_not, removed_apart, removed_length, entered_own, entered_apart, old_stays, places_named, places_live, in_up_to}
 use Rattle.rules.proofs.HowMany.{count_either, count_more, count_kept, count_map, count_none, count_append, count_one, sum_part}
 use Rattle.rules.proofs.Once.{is_at_of, removed_once, index_once}
@@ -48,9 +49,6 @@ own_few M L l =
 module _ (C : List ℕ) (M : Meaning) (L : Lawful M) (ok : enterable M C ≡ true) where
   fC : Formed C
   fC = formed_parts C (and_parts (well_formed C) (ltb (kept_clauses M) M.room) ok).0
-
-  new_ref : Ref
-  new_ref = live (last C) (length (M.own (last C)))
 
   own_cases : (l : ℕ) (E : List ℕ) → In E ((entered C M).own l) → In E (M.own l) ⊎ ((E ≡ C) × (l ≡ last C))
   own_cases l E h = ⊎_elim
@@ -204,7 +202,7 @@ module _ (l i : ℕ) (M : Meaning) (L : Lawful M) (li : i < length (M.own l)) wh
       (λ a. subst (In E) (retired_apart M l i k a) h) (cases_eq k l)
 
   shorter : suc (length ((retired l i M).own l)) ≡ length (M.own l)
-  shorter = ap (λ xs. suc (length xs)) (retired_own M l i) ∙ closed_length (M.own l) i li
+  shorter = omega (arith, ap length (retired_own M l i), length-remove (M.own l) i li)
 
   after_there : (a b k j : ℕ) → b < length (M.own a) → live k j ≡ after_retired l i (live a b) → j < length ((retired l i M).own k)
   after_there a b k j lb e = ⊎_elim (λ (p, q, w). absurd (live_dead k j (e ∙ w)))

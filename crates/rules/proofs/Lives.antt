@@ -2,11 +2,12 @@
 use Rattle.std.proofs.Common.{◌≡◌, ℕ, suc, ◌-◌, ◌<◌, ◌≤◌, List, [], ◌∷◌, map, length, get_or, sym, refl, ap, ◌∙◌, subst, ⊎_elim, arith}
 use Rattle.std.specs.List.{swap_remove}
 use Rattle.std.proofs.lemmas.Bool.{cases_eq, cond_both, ltb-true}
+use Rattle.std.proofs.lemmas.List.Edits.{length-remove}
 use Rattle.std.proofs.lemmas.List.{length-append}
 use Rattle.network.specs.Lists.{In}
 use Rattle.network.specs.Clauses.{last}
 use Rattle.rules.specs.Store.{Meaning, literals, sum_of, live_clauses, kept_clauses, entered, removed, retired, shortened, index_on, index_off, present, droppable, retire, shorten}
-use Rattle.rules.proofs.Places.{in_at, at_in, closed_length, retired_own, retired_apart, shortened_length}
+use Rattle.rules.proofs.Places.{in_at, at_in, retired_own, retired_apart, shortened_length}
 use Rattle.rules.proofs.Index.{removed_own, removed_apart, removed_length, swap_length, swap_here, swap_other, entered_own, entered_apart}
 use Rattle.rules.proofs.Along.{fewer_chains, allowed_along}
 use Rattle.rules.proofs.HowMany.{sum_apart, sum_less, sum_up, sum_le}
@@ -44,7 +45,7 @@ removed_part M l i k E h = ⊎_elim (λ e. subst (λ g. In E (M.own g)) (sym e) 
     (λ a. subst (In E) (removed_apart M l i k a) h) (cases_eq k l)
 
 pub retired_live : (M : Meaning) (l i : ℕ) → l < 2048 → i < length (M.own l) → suc (live_clauses (retired l i M)) ≡ live_clauses M
-retired_live M l i b li = less_at M (retired l i M) l b (retired_apart M l i) (ap (λ xs. suc (length xs)) (retired_own M l i) ∙ closed_length (M.own l) i li)
+retired_live M l i b li = less_at M (retired l i M) l b (retired_apart M l i) (omega (arith, ap length (retired_own M l i), length-remove (M.own l) i li))
 
 pub shortened_live : (M : Meaning) (l i x : ℕ) → live_clauses (shortened l i x M) ≡ live_clauses M
 unfolding live_clauses
@@ -69,7 +70,7 @@ removed_kept M l i = omega (arith, fewer_at M (removed l i M) l (removed_apart M
 pub retire_fewer : (l i : ℕ) (M : Meaning) → live_clauses (retire l i M).0 ≤ live_clauses M
 unfolding retire
 retire_fewer l i M = allowed_along (λ M N. live_clauses N ≤ live_clauses M) (fewer_chains live_clauses) (present M l i) M (retired l i M)
-    (λ e. fewer_at M (retired l i M) l (retired_apart M l i) (omega (arith, ap length (retired_own M l i), closed_length (M.own l) i (ltb-true i (length (M.own l)) e))))
+    (λ e. fewer_at M (retired l i M) l (retired_apart M l i) (omega (arith, ap length (retired_own M l i), length-remove (M.own l) i (ltb-true i (length (M.own l)) e))))
 
 pub shorten_fewer : (l i x : ℕ) (M : Meaning) → live_clauses (shorten l i x M).0 ≤ live_clauses M
 unfolding shorten

@@ -1,7 +1,7 @@
 -- What a store of clauses means, and what each change makes of that.
 -- Assumes nothing.
 use Rattle.std.specs.Prelude.{ℕ, zero, suc, ◌+◌, ◌-◌, Bool, true, false, cond, not, ◌&&◌, List, [], ◌∷◌, ◌++◌, map, length, take, drop, filter, ◌==◌, nat_lt, slice_index_or, slice_set, flat_map}
-use Rattle.std.specs.List.{list_any, swap_remove}
+use Rattle.std.specs.List.{list_any, swap_remove, remove as removed_at}
 use Rattle.network.specs.Clauses.{without, has, last, front, well_formed}
 
 -- what a list of uses refers to: place i of the clauses whose last literal is l, or a clause that is there no more
@@ -71,10 +71,6 @@ clause_at M l i = slice_index_or (M.own l) i []
 unfoldable pub changed : {X : Type 0} → (ℕ → X) → ℕ → X → ℕ → X
 changed f l x k = cond (k == l) x (f k)
 
--- the list without its place i, order kept
-unfoldable pub close_up : {X : Type 0} → ℕ → List X → List X
-close_up i xs = take i xs ++ drop (suc i) xs
-
 -- ## Effects
 
 -- no clause and no index
@@ -123,7 +119,7 @@ unfoldable pub retired : ℕ → ℕ → Meaning → Meaning
 retired l i M = record {
   room = M.room;
   indexed = M.indexed;
-  own = changed M.own l (close_up i (M.own l));
+  own = changed M.own l (removed_at (M.own l) i);
   uses = λ x. map (after_retired l i) (M.uses x);
   dead_clauses = cond (referred M l i) (suc M.dead_clauses) M.dead_clauses;
 }

@@ -1,14 +1,14 @@
 -- Retiring, shortening and the index, by slots and by the meaning. Assumes nothing.
 use Rattle.std.proofs.Common.{◌≡◌, ℕ, zero, suc, ◌+◌, ◌-◌, ◌<◌, Bool, true, false, cond, eqb, List, [], ◌∷◌, map, length, get_or, set, filter, sym, refl, ap, ◌∙◌, subst, inl, inr, arith, flat_map}
 use mathlib.Core.Path.{fun_ext}
-use Rattle.std.specs.List.{AllByRecursion, list_any}
+use Rattle.std.specs.List.{AllByRecursion, list_any, remove}
 use Rattle.std.proofs.lemmas.Bool.{cases_eq, cases_lt, cases_Bool, cond-true, cond-false, eq-eqb, ne_eqb, lt-ltb, le-ltb}
 use Rattle.std.proofs.lemmas.List.{map-append, get_or-map}
 use Rattle.std.proofs.ByRecursion.{All-get_or}
 use Rattle.rings.specs.Rings.{Lacks, Differ, without, drop_at, at}
 use Rattle.rings.proofs.Drops.{at_here, at_else, drop_at_all, drop_at_differ, drop_at_length, drop_at_low, drop_at_high, drop_at_out, drop_at_map}
 use Rattle.network.specs.Clauses.{last, front, has}
-use Rattle.rules.specs.Store.{live, dead, retired, shortened, index_on, close_up, after_retired, is_at, places, literals}
+use Rattle.rules.specs.Store.{live, dead, retired, shortened, index_on, after_retired, is_at, places, literals}
 use Rattle.slots.specs.Slots.{seek, ref, meant, Kept, filled_by_last}
 use Rattle.slots.proofs.Slots.{same_meaning, map_same, close_same, changed_here, changed_else, seek_lacks, seek_at, seek_kind, member, ref_at, ref_is_here, removed_ref}
 
@@ -90,8 +90,8 @@ module _ (own text : ℕ → List ℕ) (k : Kept own text) (l i : ℕ) (h : i < 
         same_meaning room ix _ _ _ _ lost' _
         (λ m.
         elim (cases_eq m l) [
-          | inl q ↦ ap (map text) (owns m ∙ at_here own l (drop_at i (own l)) m q) ∙ drop_at_map text i (own l) ∙ close_same i (map text (own l)) ∙ sym (changed_here (λ (w : ℕ). map text (own w)) l (close_up i (map text (own l))) m q)
-          | inr n ↦ ap (map text) (owns m ∙ at_else own l (drop_at i (own l)) m n) ∙ sym (changed_else (λ (w : ℕ). map text (own w)) l (close_up i (map text (own l))) m n)
+          | inl q ↦ ap (map text) (owns m ∙ at_here own l (drop_at i (own l)) m q) ∙ drop_at_map text i (own l) ∙ close_same i (map text (own l)) ∙ sym (changed_here (λ (w : ℕ). map text (own w)) l (remove (map text (own l)) i) m q)
+          | inr n ↦ ap (map text) (owns m ∙ at_else own l (drop_at i (own l)) m n) ∙ sym (changed_else (λ (w : ℕ). map text (own w)) l (remove (map text (own l)) i) m n)
         ])
         (λ m. retired_refs (used m))
         (e ∙ ap (λ (b : Bool). cond b (suc lost) lost) (any_same (λ m. has (get_or (own l) i 0) (used m)) (λ m. list_any (is_at l i) (map (ref own text) (used m))) literals (λ m. sym (at_is (used m)))))
