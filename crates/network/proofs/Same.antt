@@ -16,6 +16,9 @@ module _ (L M : ℕ → Assignment → Type 0) (same : Same L M) where
       let lower : Below L k σ = below_same k σ (λ i m. s i (omega arith)) in
       ⊎_elim (λ e. subst (λ i. L i σ) (sym e) ((same k σ lower).1 (s k (omega arith)))) (λ d. lower j (omega (arith, d))) (cases_eq j k)
 
+  pub same_sym : Same M L
+  same_sym k σ s = let e = same k σ (below_same k σ s) in (e.1, e.0)
+
   module _ (loc : Locals L) where
     pub total_same : (k : ℕ) → Total L k → Total M k
     total_same k t σ s =

@@ -11,7 +11,7 @@ use Rattle.network.specs.Resolution.{Resolves}
 use Rattle.network.proofs.Literals.{lit_neg, lit_agree, put_apart, node_cases}
 use Rattle.network.proofs.Lists.{all_at, all_from, all_not, any_from, any_some, any_none}
 use Rattle.network.proofs.Holding.{holds_put}
-use Rattle.network.proofs.Levels.{below_more, below_put}
+use Rattle.network.proofs.Levels.{below_more, below_put, below_agree}
 use Rattle.network.proofs.Networks.{locals, clause_at}
 
 pub lit_apart : (σ : Assignment) (v : ℕ) (b : Bool) (l : ℕ) → (node l ≡ v → ⊥) → lit (put σ v b) l ≡ lit σ l
@@ -102,6 +102,10 @@ module _ (own new : Network) (v : ℕ) (wf : Owned own)
     has_value k σ l s =
         let b = total v σ (lower v σ (omega arith) (λ j m. s j (omega arith))) in
         (b.0, b.1, restored k σ b.0 s b.1)
+
+    pub one_value : (k : ℕ) (σ : Assignment) → v < k → Below (level own) k (put σ v true) → Below (level own) k (put σ v false) → ⊥
+    one_value k σ l p q =
+        unique σ (below_agree (level own) (locals own wf) v (put σ v true) σ (λ n m. put_apart σ v true n (λ e. omega arith)) (λ j m. p j (omega arith))) (p v l) (q v l)
 
     pub unique_new : (k : ℕ) → (k ≡ v → ⊥) → Unique (level own) k → Unique (level new) k
     unique_new k a u σ s p q = elim (cases_order v k) [

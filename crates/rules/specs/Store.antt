@@ -1,6 +1,6 @@
 -- What a store of clauses means, and what each change makes of that.
 -- Assumes nothing.
-use Rattle.std.specs.Prelude.{ℕ, zero, suc, ◌+◌, ◌-◌, Bool, true, false, cond, not, ◌&&◌, List, [], ◌∷◌, ◌++◌, map, length, take, drop, filter, ◌==◌, nat_lt, slice_index_or, slice_set, flat_map}
+use Rattle.std.specs.Prelude.{ℕ, zero, suc, ◌+◌, ◌-◌, Bool, true, false, cond, not, ◌&&◌, List, [], ◌∷◌, ◌++◌, map, length, filter, ◌==◌, nat_lt, slice_index_or, slice_set, flat_map}
 use Rattle.std.specs.List.{list_any, swap_remove, remove as removed_at}
 use Rattle.network.specs.Clauses.{without, has, last, front, well_formed}
 
