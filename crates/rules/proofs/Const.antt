@@ -21,7 +21,7 @@ use Rattle.rules.specs.Const.{goes, shrinks, stays, fate_of, marking, if_known, 
 use Rattle.rules.proofs.Kept.{well, known, with_here, with_apart, unit_holds}
 use Rattle.rules.proofs.Simplified.{Short, says_at, simplified_some, simplified_none, simplified_ordered, unit_is, unit_true}
 use Rattle.rules.proofs.Enter.{Plus}
-use Rattle.rules.proofs.Drops.{not_nil, swap_kept}
+use Rattle.rules.proofs.Drops.{not_nil, PartAt, swap_kept}
 use Rattle.rules.proofs.Verdicts.{owner_last, last_in}
 use Rattle.rules.proofs.Places.{in_at, at_in, held_in, in_held, held_old, placed_changed}
 use Rattle.rules.proofs.Index.{entered_own, entered_apart}
@@ -190,18 +190,18 @@ module _ (first : Network) (n : ℕ) (gone frozen : Assignment) where
           p : Plus (held W.store) (held (entered S W.store)) S
           p = entered_plus W.store S
 
-          new_one : (k : ℕ) (E : List ℕ) → E ≡ S → owner S ≡ k → (D : List ℕ) × In D (P k) × Subsumes E D × Ordered E × (owner E ≡ k) × ((m : ℕ) × ((σ : Assignment) → Below (level P) m σ → holds σ E ≡ true))
-          new_one k E q w = (
-            C,
-            subst (λ g. In C (P g)) (sym owner_S ∙ w) (in_plus l C i),
-            (λ x h. (sh.0 x (subst (In x) q h)).0),
-            subst Ordered (sym q) (simplified_ordered W.values C S e (c.kc.clauses.order (node l) C (in_plus l C i))),
-            ap owner q ∙ w,
-            (suc (node l), λ σ s. ap (holds σ) q ∙ implied σ s),
-          )
+          new_one : (k : ℕ) (E : List ℕ) → E ≡ S → owner S ≡ k → PartAt P k E
+          new_one k E q w = subst (PartAt P k) (sym q) (record {
+            whole = C;
+            at = subst (λ g. In C (P g)) (sym owner_S ∙ w) (in_plus l C i);
+            part = λ x h. (sh.0 x h).0;
+            order = simplified_ordered W.values C S e (c.kc.clauses.order (node l) C (in_plus l C i));
+            owned = w;
+            implied = (suc (node l), implied);
+          })
 
           added : (k : ℕ) (E : List ℕ) → In E (plus (held (entered S W.store)) (known_by S W.values) gone k)
-              → In E (P k) ⊎ ((D : List ℕ) × In D (P k) × Subsumes E D × Ordered E × (owner E ≡ k) × ((m : ℕ) × ((σ : Assignment) → Below (level P) m σ → holds σ E ≡ true)))
+              → In E (P k) ⊎ PartAt P k E
           added k E h = ⊎_elim (λ j. ⊎_elim (λ o. inl (plus_own (held W.store) W.values gone k E o)) (λ (q, w). inr (new_one k E q w)) (p.cases k E j))
               (λ (b, g, u, q). ⊎_elim (λ v. inl (subst (λ D. In D (P k)) (sym q) (plus_unit (held W.store) W.values gone k b g v)))
               (λ v. inr (new_one k E (q ∙ sym v) (ap owner v ∙ unit_owner k b))) (known_cases S W.values k b u)) (plus_cases (held (entered S W.store)) (known_by S W.values) gone k E h)

@@ -7,7 +7,7 @@ use Rattle.std.proofs.lemmas.List.{get_or-take, length-take-le, get_or-set_other
 use Rattle.network.specs.Lists.{In}
 use Rattle.network.specs.Clauses.{has, last, front}
 use Rattle.network.proofs.Lists.{in_left, in_right, in_cases, in_kept, kept_in, in_map, map_in, any_from, in_flat_map, flat_map_in, has_in}
-use Rattle.rules.specs.Store.{Ref, live, dead, Meaning, is_at, from, up_to, literals, with_use, entered, moved_ref, removed, with_first, places, index_on}
+use Rattle.rules.specs.Store.{Ref, live, dead, Meaning, is_at, from, up_to, literals, with_use, entered, moved_ref, removed, with_first, places, index_on, filled}
 use Rattle.rules.specs.Index.{Indexed}
 use Rattle.rules.proofs.Places.{in_at, changed_here, changed_apart}
 
@@ -256,17 +256,22 @@ places_live x l [] i h = h
 places_live x l (C ∷ Cs) i h = cond_both (has x (front C)) (live l i ∷ places x l (suc i) Cs) (places x l (suc i) Cs) (λ rs. In dead rs → ⊥)
     (λ e r. ⊎_elim (λ q. live_dead l i (sym q)) (places_live x l Cs (suc i)) r) (λ e r. places_live x l Cs (suc i) r) h
 
+-- what is filled names the places that are there
+pub filled_named : (M : Meaning) (x k j : ℕ) → In (live k j) ((filled M).uses x) → (j < length (M.own k)) × In x (front (get_or (M.own k) j []))
+filled_named M x k j h =
+    let (l, i, p) = flat_map_in (λ l. places x l 0 (M.own l)) literals (live k j) h in
+    let (a, b, c, d) = places_named x l (M.own l) 0 k j p in
+    subst (λ g. (j < length (M.own g)) × In x (front (get_or (M.own g) j []))) (sym a) (omega arith, subst (λ t. In x (front (get_or (M.own l) t []))) (omega arith) d)
+
+pub filled_live : (M : Meaning) (x : ℕ) → In dead ((filled M).uses x) → ⊥
+filled_live M x h = let (l, i, p) = flat_map_in (λ l. places x l 0 (M.own l)) literals dead h in places_live x l (M.own l) 0 p
+
 pub index_on_indexed : (M : Meaning) → M.indexed ≡ false → ((l : ℕ) (C : List ℕ) → In C (M.own l) → l < 2048) → Indexed (index_on M)
 unfolding index_on
-index_on_indexed M off small = subst (λ b. Indexed (cond b M made)) (sym off) (record {
+index_on_indexed M off small = subst Indexed (sym (cond-false M.indexed M (filled M) off)) (record {
   on = refl;
-  named = λ x k j h. let (l, i, p) = flat_map_in (λ l. places x l 0 (M.own l)) literals (live k j) h in
-      let (a, b, c, d) = places_named x l (M.own l) 0 k j p in
-      subst (λ g. (j < length (M.own g)) × In x (front (get_or (M.own g) j []))) (sym a) (omega arith, subst (λ t. In x (front (get_or (M.own l) t []))) (omega arith) d);
+  named = filled_named M;
   every = λ x l i li h. in_flat_map (λ l. places x l 0 (M.own l)) literals l (live l i)
       (in_up_to 2048 l (small l (get_or (M.own l) i []) (in_at (M.own l) i [] li))) (subst (λ t. In (live l t) (places x l 0 (M.own l))) (omega arith) (places_every x l (M.own l) 0 i li h));
-  no_dead = λ x h. let (l, i, p) = flat_map_in (λ l. places x l 0 (M.own l)) literals dead h in places_live x l (M.own l) 0 p;
+  no_dead = filled_live M;
 })
-  where
-    made : Meaning
-    made = record { room = M.room; indexed = true; own = M.own; uses = λ x. flat_map (λ l. places x l 0 (M.own l)) literals; dead_clauses = 0 }

@@ -1,17 +1,17 @@
 -- Every change of a store keeps its meaning lawful. Assumes nothing.
 use Rattle.std.proofs.Common.{◌≡◌, ℕ, zero, suc, ◌+◌, ◌-◌, ◌<◌, ◌≤◌, true, false, cond, not, ◌&&◌, ◌||◌, eqb, ltb, ◌⊎◌, List, [], ◌∷◌, ◌++◌, map, length, get_or, filter, sym, refl, ap, ◌∙◌, subst, inl, inr, ⊎_elim, arith, flat_map}
 use Rattle.std.specs.List.{list_any}
-use Rattle.std.proofs.lemmas.Bool.{cases_eq, cases_lt, cases_Bool, cond_both, both_ways, and_parts, ltb-true, not-true}
+use Rattle.std.proofs.lemmas.Bool.{cases_eq, cases_lt, cases_Bool, cond_both, cond-true, cond-false, both_ways, and_parts, ltb-true, not-true}
 use Rattle.std.proofs.lemmas.Bool.Decides.{nat_tests}
 use Rattle.std.proofs.lemmas.List.Edits.{length-remove}
 use Rattle.std.proofs.lemmas.List.{length-append}
 use Rattle.network.specs.Lists.{In}
 use Rattle.network.specs.Clauses.{has, last, front, without, well_formed}
 use Rattle.network.proofs.Lists.{in_cases, kept_in, map_in, any_none, flat_map_in, has_in}
-use Rattle.rules.specs.Store.{Ref, live, dead, Meaning, is_at, is_dead, from, literals, sum_of, how_many, live_clauses, kept_clauses, emptied, with_use, entered, moved_ref, removed, after_retired, referred, retired, shortened, places, index_on, index_off, present, enterable, droppable}
+use Rattle.rules.specs.Store.{Ref, live, dead, Meaning, is_at, is_dead, from, literals, sum_of, how_many, live_clauses, kept_clauses, emptied, with_use, entered, moved_ref, removed, after_retired, referred, retired, shortened, filled, index_on, index_off, present, enterable, droppable}
 use Rattle.rules.specs.Lawful.{Lawful}
 use Rattle.rules.proofs.Places.{in_at, closed_in, set_in, retired_own, retired_apart, shortened_own, shortened_apart, shortened_length}
-use Rattle.rules.proofs.Index.{live_lit, live_place, live_dead, at_is, moved_here, moved_not, removed_apart, removed_length, entered_own, entered_apart, old_stays, places_named, places_live, in_up_to}
+use Rattle.rules.proofs.Index.{live_lit, live_place, live_dead, at_is, moved_here, moved_not, removed_apart, removed_length, entered_own, entered_apart, old_stays, filled_named, filled_live, in_up_to}
 use Rattle.rules.proofs.HowMany.{count_either, count_more, count_kept, count_map, count_none, count_append, count_one, sum_part}
 use Rattle.rules.proofs.Once.{is_at_of, removed_once, index_once}
 use Rattle.rules.proofs.Lives.{entered_kept, removed_kept, removed_part, retired_live, shortened_live}
@@ -278,11 +278,9 @@ module _ (l i : ℕ) (M : Meaning) (L : Lawful M) (li : i < length (M.own l)) wh
   none_retired x e = ap (map (after_retired l i)) e
 
   retired_within : kept_clauses (retired l i M) ≤ M.room
-  retired_within = sums (live_clauses (retired l i M)) (live_clauses M) (retired l i M).dead_clauses M.dead_clauses M.room (retired_live M l i (own_small M L l i li) li)
-      (unfold retired in (cond_both (referred M l i) (suc M.dead_clauses) M.dead_clauses (λ n. n ≤ suc M.dead_clauses) (λ e. omega arith) (λ e. omega arith))) L.within
-    where
-      sums : (a b c d r : ℕ) → suc a ≡ b → c ≤ suc d → b + d ≤ r → a + c ≤ r
-      sums a b c d r p q s = omega arith
+  retired_within =
+      let d : (retired l i M).dead_clauses ≤ suc M.dead_clauses = unfold retired in (cond_both (referred M l i) (suc M.dead_clauses) M.dead_clauses (λ n. n ≤ suc M.dead_clauses) (λ e. omega arith) (λ e. omega arith)) in
+      omega (arith, retired_live M l i (own_small M L l i li) li, d, L.within)
 
   pub retired_lawful : Lawful (retired l i M)
   retired_lawful = record {
@@ -321,10 +319,7 @@ module _ (l i x : ℕ) (M : Meaning) (L : Lawful M) (ok : droppable M l i x ≡ 
       (λ a. inl (subst (In E) (shortened_apart M l i x k a) h)) (cases_eq k l)
 
   shortened_within : kept_clauses (shortened l i x M) ≤ M.room
-  shortened_within = sums (live_clauses (shortened l i x M)) (live_clauses M) (shortened l i x M).dead_clauses M.dead_clauses M.room (shortened_live M l i x) (unfold shortened in refl) L.within
-    where
-      sums : (a b c d r : ℕ) → a ≡ b → c ≡ d → b + d ≤ r → a + c ≤ r
-      sums a b c d r p q s = omega arith
+  shortened_within = let d : (shortened l i x M).dead_clauses ≡ M.dead_clauses = unfold shortened in refl in omega (arith, shortened_live M l i x, d, L.within)
 
   pub shortened_lawful : Lawful (shortened l i x M)
   shortened_lawful = record {
@@ -341,49 +336,36 @@ module _ (l i x : ℕ) (M : Meaning) (L : Lawful M) (ok : droppable M l i x ≡ 
 -- ## The index
 
 module _ (M : Meaning) (L : Lawful M) where
-  indexed_now : Meaning
-  indexed_now = record { room = M.room; indexed = true; own = M.own; uses = λ x. flat_map (λ l. places x l 0 (M.own l)) literals; dead_clauses = 0 }
-
-  index_is : M.indexed ≡ false → index_on M ≡ indexed_now
-  unfolding index_on indexed_now
-  index_is off = ap (λ b. cond b M (record { room = M.room; indexed = true; own = M.own; uses = λ x. flat_map (λ l. places x l 0 (M.own l)) literals; dead_clauses = 0 })) off
+  index_is : M.indexed ≡ false → index_on M ≡ filled M
+  unfolding index_on
+  index_is = cond-false M.indexed M (filled M)
 
   index_stays : M.indexed ≡ true → index_on M ≡ M
   unfolding index_on
-  index_stays on = ap (λ b. cond b M (record { room = M.room; indexed = true; own = M.own; uses = λ x. flat_map (λ l. places x l 0 (M.own l)) literals; dead_clauses = 0 })) on
+  index_stays = cond-true M.indexed M (filled M)
 
-  use_named : (x l i : ℕ) → In (live l i) (flat_map (λ l. places x l 0 (M.own l)) literals) → (i < length (M.own l)) × In x (front (get_or (M.own l) i []))
-  use_named x l i h =
-      let (k, a, p) = flat_map_in (λ l. places x l 0 (M.own l)) literals (live l i) h in
-      let (e, b, c, d) = places_named x k (M.own k) 0 l i p in
-      subst (λ g. (i < length (M.own g)) × In x (front (get_or (M.own g) i []))) (sym e) (omega arith, subst (λ t. In x (front (get_or (M.own k) t []))) (omega arith) d)
-
-  no_dead_use : (x : ℕ) → In dead (flat_map (λ l. places x l 0 (M.own l)) literals) → ⊥
-  no_dead_use x h = let (l, a, p) = flat_map_in (λ l. places x l 0 (M.own l)) literals dead h in places_live x l (M.own l) 0 p
-
-  no_far_use : (x : ℕ) → 2048 ≤ x → (r : Ref) → In r (flat_map (λ l. places x l 0 (M.own l)) literals) → ⊥
-  no_far_use x b dead h = no_dead_use x h
+  no_far_use : (x : ℕ) → 2048 ≤ x → (r : Ref) → In r ((filled M).uses x) → ⊥
+  no_far_use x b dead h = filled_live M x h
   no_far_use x b (live l i) h =
-      let (li, f) = use_named x l i h in
+      let (li, f) = filled_named M x l i h in
       let F = formed_parts (get_or (M.own l) i []) (L.formed l (get_or (M.own l) i []) (in_at (M.own l) i [] li)) in
       omega (arith, front_below (get_or (M.own l) i []) F.order x f, F.small)
 
-  indexed_within : kept_clauses indexed_now ≤ M.room
-  unfolding indexed_now live_clauses
+  indexed_within : kept_clauses (filled M) ≤ M.room
+  unfolding live_clauses
   indexed_within = sums (sum_of (map (λ l. length (M.own l)) literals)) M.dead_clauses M.room L.within
     where
       sums : (a d r : ℕ) → a + d ≤ r → a + 0 ≤ r
       sums a d r p = omega arith
 
-  indexed_lawful : M.indexed ≡ false → Lawful indexed_now
-  unfolding indexed_now
+  indexed_lawful : M.indexed ≡ false → Lawful (filled M)
   indexed_lawful off = record {
     formed = L.formed;
     placed = L.placed;
-    bounded = λ x b. nil_is (flat_map (λ l. places x l 0 (M.own l)) literals) (no_far_use x b);
-    named = λ x l i h. (use_named x l i h).0;
+    bounded = λ x b. nil_is ((filled M).uses x) (no_far_use x b);
+    named = λ x l i h. (filled_named M x l i h).0;
     once = subst (λ N. (x l i : ℕ) → how_many (is_at l i) (N.uses x) ≤ 1) (index_is off) (index_once M off);
-    mourned = λ x. omega (arith, count_none is_dead (flat_map (λ l. places x l 0 (M.own l)) literals) (λ r h e. no_dead_use x (subst (λ s. In s (flat_map (λ l. places x l 0 (M.own l)) literals)) (is_dead_of r e) h)));
+    mourned = λ x. omega (arith, count_none is_dead ((filled M).uses x) (λ r h e. filled_live M x (subst (λ s. In s ((filled M).uses x)) (is_dead_of r e) h)));
     within = indexed_within;
     unindexed = λ e. absurd (both_ways true e refl);
   }
@@ -396,7 +378,6 @@ module _ (M : Meaning) (L : Lawful M) where
   index_on_lawful = ⊎_elim (λ on. subst Lawful (sym (index_stays on)) L) (λ off. subst Lawful (sym (index_is off)) (indexed_lawful off)) (cases_Bool M.indexed)
 
   pub index_on_room : (index_on M).room ≡ M.room
-  unfolding indexed_now
   index_on_room = ⊎_elim (λ on. ap (λ N. N.room) (index_stays on)) (λ off. ap (λ N. N.room) (index_is off)) (cases_Bool M.indexed)
 
   unindexed_within : kept_clauses (index_off M) ≤ M.room

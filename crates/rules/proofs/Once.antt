@@ -4,7 +4,7 @@ use Rattle.std.proofs.lemmas.Bool.{cases_eq, cases_Bool, cond_both, both_ways, n
 use Rattle.network.specs.Lists.{In}
 use Rattle.network.specs.Clauses.{has, front}
 use Rattle.network.proofs.Lists.{kept_in}
-use Rattle.rules.specs.Store.{Ref, live, dead, Meaning, is_at, from, literals, how_many, moved_ref, removed, places, index_on}
+use Rattle.rules.specs.Store.{Ref, live, dead, Meaning, is_at, from, literals, how_many, moved_ref, removed, places, index_on, filled}
 use Rattle.rules.proofs.Index.{at_is, is_here}
 use Rattle.rules.proofs.HowMany.{count_more, count_kept, count_map, count_append}
 
@@ -85,4 +85,4 @@ module _ (M : Meaning) (x : ℕ) where
 
 pub index_once : (M : Meaning) → M.indexed ≡ false → Once (index_on M)
 unfolding index_on every
-index_once M off = subst (λ b. Once (cond b M (record { room = M.room; indexed = true; own = M.own; uses = λ x. flat_map (λ l. places x l 0 (M.own l)) literals; dead_clauses = 0 }))) (sym off) (λ x k j. gather_once M x 2048 0 k j)
+index_once M off = subst (λ b. Once (cond b M (filled M))) (sym off) (λ x k j. gather_once M x 2048 0 k j)

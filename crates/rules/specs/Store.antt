@@ -143,15 +143,19 @@ unfoldable pub places : ℕ → ℕ → ℕ → List (List ℕ) → List Ref
 places x l i [] = []
 places x l i (C ∷ Cs) = with_first (has x (front C)) (live l i) (places x l (suc i) Cs)
 
--- the uses of every literal are filled, by nodes rising, unless an index stands
-unfoldable pub index_on : Meaning → Meaning
-index_on M = cond M.indexed M (record {
+-- the uses of every literal are filled, by nodes rising
+abbrev pub filled : Meaning → Meaning
+filled M = record {
   room = M.room;
   indexed = true;
   own = M.own;
   uses = λ x. flat_map (λ l. places x l 0 (M.own l)) literals;
   dead_clauses = 0;
-})
+}
+
+-- the same, unless an index stands
+unfoldable pub index_on : Meaning → Meaning
+index_on M = cond M.indexed M (filled M)
 
 -- the uses are dropped
 unfoldable pub index_off : Meaning → Meaning
