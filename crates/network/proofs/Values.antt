@@ -60,6 +60,9 @@ unfolding simplified
 short V [] = ((λ (l, i, t). i), (λ l i. absurd i), λ l i. absurd i)
 short V (l ∷ C) = short_step V l C (literal V l) (simplified V C) refl (short V C)
 
+pub left_short : (V : Values) (C R : List ℕ) → simplified V C ≡ Some R → ((l : ℕ) → In l C → (literal V l ≡ Some false) ⊎ In l R) × ((l : ℕ) → In l R → In l C × (literal V l ≡ None))
+left_short V C R e = let (n, f, g) = subst (Short V C) e (short V C) in (f, g)
+
 -- ---- it stays in order
 
 abbrev pub IfLeft : (List ℕ → Type 0) → Option (List ℕ) → Type 0

@@ -11,7 +11,7 @@ use Rattle.rules.specs.Const.{Fate, goes, shrinks, stays, fate_of, fate, marking
 use Rattle.rules.specs.Turns.{entries, judged_entries_by, judged_entries, Accepted, AllAccepted}
 use Rattle.rules.proofs.Plain as plain
 use Rattle.rules.proofs.Answers.{enter_yes}
-use Rattle.rules.proofs.Index.{entered_own, entered_apart}
+use Rattle.rules.proofs.Index.{entered_own, entered_apart, entered_cases}
 use Rattle.rules.proofs.Simplified.{simplified_some}
 use Rattle.rules.proofs.Lives.{entered_live, entered_kept}
 use Rattle.rules.proofs.Const.{NoLonger, no_longer}
@@ -39,9 +39,7 @@ entered_in : (S : List ℕ) (M : Meaning) → In S ((entered S M).own (last S))
 entered_in S M = subst (In S) (sym (entered_own M S)) (in_right S (M.own (last S)) (S ∷ []) (inl refl))
 
 entered_short : (S : List ℕ) (M : Meaning) → length S ≤ 32 → AllShort M → AllShort (entered S M)
-entered_short S M s h l C i = ⊎_elim
-    (λ e. ⊎_elim (h (last S) C) (λ j. omega (arith, ap length (⊎_elim (λ q. q) absurd j), s)) (in_cases C (M.own (last S)) (S ∷ []) (subst (In C) (entered_own M S) (subst (λ g. In C ((entered S M).own g)) e i))))
-    (λ a. h l C (subst (In C) (entered_apart M S l a) i)) (cases_eq l (last S))
+entered_short S M s h l C i = ⊎_elim (h l C) (λ (q, e). omega (arith, ap length q, s)) (entered_cases M S l C i)
 
 -- a clause entered without a test
 module _ (C : List ℕ) (W : Work) where

@@ -19,7 +19,7 @@ use Rattle.rules.proofs.Simplified.{says_at, simplified_some, simplified_none, u
 use Rattle.rules.proofs.Enter.{Plus, Occurs, Implied, enter_kept}
 use Rattle.rules.proofs.Verdicts.{owner_last}
 use Rattle.rules.proofs.Places.{held_in, held_new, held_old, placed_changed}
-use Rattle.rules.proofs.Index.{entered_own, entered_apart, entered_indexed}
+use Rattle.rules.proofs.Index.{entered_own, entered_apart, entered_cases, entered_indexed}
 use Rattle.rules.proofs.Facts.{none_some}
 
 pub entered_plus : (M : Meaning) (S : List ℕ) → Plus (held M) (held (entered S M)) S
@@ -31,8 +31,7 @@ entered_plus M S = record {
 }
 
 pub entered_placed : (M : Meaning) (S : List ℕ) → Placed M → Placed (entered S M)
-entered_placed M S P = placed_changed M (entered S M) (last S) (entered_apart M S)
-    (λ E i. ⊎_elim (P (last S) E) (λ j. ap last (⊎_elim (λ e. e) absurd j)) (in_cases E (M.own (last S)) (S ∷ []) (subst (In E) (entered_own M S) i))) P
+entered_placed M S P l E i = ⊎_elim (P l E) (λ (q, e). ap last q ∙ sym e) (entered_cases M S l E i)
 
 -- what does not change
 pub add_top : (C : List ℕ) (W : Work) → ((add C W).top ≡ W.top) × ((add C W).out ≡ W.out) × ((add C W).frozen ≡ W.frozen)

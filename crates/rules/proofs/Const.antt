@@ -19,18 +19,19 @@ use Rattle.rules.specs.Work.{Work, storing, valuing, each, known_by, clear, clea
 use Rattle.rules.proofs.Plain.{add_simplified, add, judged_by, judged, const_node, const_simplify}
 use Rattle.rules.specs.Const.{goes, shrinks, stays, fate_of, marking, if_known, const_drop}
 use Rattle.rules.proofs.Kept.{well, known, with_here, with_apart, unit_holds}
-use Rattle.rules.proofs.Simplified.{Short, says_at, simplified_some, simplified_none, simplified_ordered, unit_is, unit_true}
+use Rattle.rules.proofs.Simplified.{Short, says_at, simplified_some, simplified_none, unit_is, unit_true}
 use Rattle.rules.proofs.Enter.{Plus}
 use Rattle.rules.proofs.Drops.{not_nil, PartAt, swap_kept}
 use Rattle.rules.proofs.Verdicts.{owner_last, last_in}
 use Rattle.rules.proofs.Places.{in_at, at_in, held_in, in_held, held_old, placed_changed}
 use Rattle.rules.proofs.Index.{entered_own, entered_apart}
 use Rattle.rules.proofs.Clear.{Left, Cleared, clear_is, clear_all_is, clear_all_empty}
-use Rattle.rules.proofs.Adds.{entered_plus}
+use Rattle.rules.proofs.Adds.{entered_plus, entered_placed}
 use Rattle.rules.proofs.Plus.{plus, plus_own, plus_unit, plus_cases, plus_kept, minus_kept, reason_drop, unit_owner}
 use Rattle.rules.proofs.Facts.{none_some}
 use Rattle.network.proofs.Ordered.{ordered_once, ordered_within}
 use Rattle.std.proofs.lemmas.List.{append-nil, get_or_append_left, get_or_past, length-append, length-replicate}
+use Rattle.network.proofs.Values.{simplified_ordered}
 
 -- a clause of unvalued literals stays as it is
 simplified_same : (V : Values) (S : List ℕ) → ((l : ℕ) → In l S → V (node l) ≡ None) → simplified V S ≡ Some S
@@ -147,7 +148,7 @@ module _ (first : Network) (n : ℕ) (gone frozen : Assignment) where
       abbrev V : Values
       V = W.values
 
-      sh : Short V C (Some S)
+      sh : Short V C S
       sh = simplified_some W.values C S e
 
       abbrev N : Work
@@ -179,8 +180,7 @@ module _ (first : Network) (n : ℕ) (gone frozen : Assignment) where
       short_consting : Consting N
       short_consting = record {
         kc = swap_kept first P n nothing gone frozen c.kc (plus (held (entered S W.store)) (known_by S W.values) gone) added kept_old;
-        placed = placed_changed W.store (entered S W.store) (last S) (entered_apart W.store S)
-            (λ E h. ⊎_elim (c.placed (last S) E) (λ j. ap last (⊎_elim (λ q. q) absurd j)) (in_cases E (W.store.own (last S)) (S ∷ []) (subst (In E) (entered_own W.store S) h))) c.placed;
+        placed = entered_placed W.store S c.placed;
         valued = λ k b u. ⊎_elim (c.valued k b) (λ q. let (x, h, w) = unit_node k b S q in
             omega (arith, well first P n nothing gone frozen c.kc (node l) C (in_plus l C i) x (sh.0 x h).0, c.kc.clauses.small (node l) C (in_plus l C i), w)) (known_cases S W.values k b u);
         old = λ σ s k b g u. ⊎_elim (c.old σ s k b g) (λ q. let (x, h, w) = unit_node k b S q in
@@ -195,7 +195,7 @@ module _ (first : Network) (n : ℕ) (gone frozen : Assignment) where
             whole = C;
             at = subst (λ g. In C (P g)) (sym owner_S ∙ w) (in_plus l C i);
             part = λ x h. (sh.0 x h).0;
-            order = simplified_ordered W.values C S e (c.kc.clauses.order (node l) C (in_plus l C i));
+            order = simplified_ordered W.values C S (c.kc.clauses.order (node l) C (in_plus l C i)) e;
             owned = w;
             implied = (suc (node l), implied);
           })
@@ -341,7 +341,7 @@ module _ (first : Network) (n : ℕ) (gone frozen : Assignment) where
   last_false : (W : Work) (c : Consting W) (l : ℕ) (C S : List ℕ) → In C (W.store.own l) → simplified W.values C ≡ Some S → (last S ≡ last C → ⊥) → literal W.values (last C) ≡ Some false
   last_false W c l C S i e a = ⊎_elim (λ h. absurd (a (same h))) (λ f. f) (sh.1 (last C) (last_here W c l C i))
     where
-      sh : Short W.values C (Some S)
+      sh : Short W.values C S
       sh = simplified_some W.values C S e
 
       oC : Ordered C
@@ -350,7 +350,7 @@ module _ (first : Network) (n : ℕ) (gone frozen : Assignment) where
       same : In (last C) S → last S ≡ last C
       same h =
           let m : In (last S) S = last_in S (λ q. subst (In (last C)) q h) in
-          let oS = simplified_ordered W.values C S e oC in
+          let oS = simplified_ordered W.values C S oC e in
           ordered_once C oC (last S) (last C) (sh.0 (last S) m).0 (last_here W c l C i)
           (omega (arith, ordered_within S oS (last C) h, owner_last S, ordered_within C oC (last S) (sh.0 (last S) m).0, owner_last C))
 

@@ -57,6 +57,13 @@ module _ (M : Meaning) (l i : ℕ) where
   pub removed_length : length ((removed l i M).own l) ≡ length (M.own l) - 1
   removed_length = ap length removed_own ∙ swap_length [] i (M.own l)
 
+  pub removed_origin : (x : ℕ) (s : Ref) → In s ((removed l i M).uses x) → (r : Ref) × In r (M.uses x) × (is_at l i r ≡ false) × (s ≡ moved_ref l (length (M.own l) - 1) i r)
+  unfolding removed
+  removed_origin x s h =
+      let (r, k, e) = map_in (moved_ref l (length (M.own l) - 1) i) s (filter (λ r. not (is_at l i r)) (M.uses x)) h in
+      let (o, t) = kept_in (λ r. not (is_at l i r)) r (M.uses x) k in
+      (r, o, not-true (is_at l i r) t, e)
+
   module _ (I : Indexed M) (li : i < length (M.own l)) where
     end : ℕ
     end = length (M.own l) - 1
@@ -135,15 +142,8 @@ module _ (M : Meaning) (l i : ℕ) where
         same : k ≡ l → In (live k j) ((removed l i M).uses x)
         same e = subst (λ g. In (live g j) ((removed l i M).uses x)) (sym e) (at_l (subst (λ g. j < length ((removed l i M).own g)) e lj) (subst (λ g. In x (front (get_or ((removed l i M).own g) j []))) e h))
 
-    pub use_origin : (x : ℕ) (s : Ref) → In s ((removed l i M).uses x) → (r : Ref) × In r (M.uses x) × (is_at l i r ≡ false) × (s ≡ moved_ref l (length (M.own l) - 1) i r)
-    unfolding removed
-    use_origin x s h =
-        let (r, k, e) = map_in (moved_ref l (length (M.own l) - 1) i) s (filter (λ r. not (is_at l i r)) (M.uses x)) h in
-        let (o, t) = kept_in (λ r. not (is_at l i r)) r (M.uses x) k in
-        (r, o, not-true (is_at l i r) t, e)
-
     pub removed_indexed : Indexed (removed l i M)
-    removed_indexed = record { on = on'; named = λ x k j h. go x k j (use_origin x (live k j) h); every = use_every; no_dead = λ x h. lost x (use_origin x dead h) }
+    removed_indexed = record { on = on'; named = λ x k j h. go x k j (removed_origin x (live k j) h); every = use_every; no_dead = λ x h. lost x (removed_origin x dead h) }
       where
         on' : (removed l i M).indexed ≡ true
         on' = unfold removed in I.on
@@ -166,6 +166,12 @@ module _ (M : Meaning) (C : List ℕ) where
   pub entered_apart : (k : ℕ) → (k ≡ last C → ⊥) → (entered C M).own k ≡ M.own k
   unfolding entered
   entered_apart k a = changed_apart M.own (last C) (M.own (last C) ++ (C ∷ [])) k a
+
+  pub entered_cases : (l : ℕ) (E : List ℕ) → In E ((entered C M).own l) → In E (M.own l) ⊎ ((E ≡ C) × (l ≡ last C))
+  entered_cases l E h = ⊎_elim
+      (λ e. ⊎_elim (λ j. inl (subst (λ g. In E (M.own g)) (sym e) j)) (λ j. inr (⊎_elim (λ q. q) absurd j, e))
+      (in_cases E (M.own (last C)) (C ∷ []) (subst (In E) entered_own (subst (λ g. In E ((entered C M).own g)) e h))))
+      (λ a. inl (subst (In E) (entered_apart l a) h)) (cases_eq l (last C))
 
   pub old_stays : (k j : ℕ) → j < length (M.own k) → (j < length ((entered C M).own k)) × (get_or ((entered C M).own k) j [] ≡ get_or (M.own k) j [])
   old_stays k j l = ⊎_elim

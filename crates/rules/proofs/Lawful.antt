@@ -11,7 +11,7 @@ use Rattle.network.proofs.Lists.{in_cases, kept_in, map_in, any_none, flat_map_i
 use Rattle.rules.specs.Store.{Ref, live, dead, Meaning, is_at, is_dead, from, literals, sum_of, how_many, live_clauses, kept_clauses, emptied, with_use, entered, moved_ref, removed, after_retired, referred, retired, shortened, filled, index_on, index_off, present, enterable, droppable}
 use Rattle.rules.specs.Lawful.{Lawful}
 use Rattle.rules.proofs.Places.{in_at, closed_in, set_in, retired_own, retired_apart, shortened_own, shortened_apart, shortened_length}
-use Rattle.rules.proofs.Index.{live_lit, live_place, live_dead, at_is, moved_here, moved_not, removed_apart, removed_length, entered_own, entered_apart, old_stays, filled_named, filled_live, in_up_to}
+use Rattle.rules.proofs.Index.{live_lit, live_place, live_dead, at_is, moved_here, moved_not, removed_apart, removed_length, removed_origin, entered_cases, entered_own, entered_apart, old_stays, filled_named, filled_live, in_up_to}
 use Rattle.rules.proofs.HowMany.{count_either, count_more, count_kept, count_map, count_none, count_append, count_one, sum_part}
 use Rattle.rules.proofs.Once.{is_at_of, removed_once, index_once}
 use Rattle.rules.proofs.Lives.{entered_kept, removed_kept, removed_part, retired_live, shortened_live}
@@ -49,12 +49,6 @@ own_few M L l =
 module _ (C : List ℕ) (M : Meaning) (L : Lawful M) (ok : enterable M C ≡ true) where
   fC : Formed C
   fC = formed_parts C (and_parts (well_formed C) (ltb (kept_clauses M) M.room) ok).0
-
-  own_cases : (l : ℕ) (E : List ℕ) → In E ((entered C M).own l) → In E (M.own l) ⊎ ((E ≡ C) × (l ≡ last C))
-  own_cases l E h = ⊎_elim
-      (λ e. ⊎_elim (λ j. inl (subst (λ g. In E (M.own g)) (sym e) j)) (λ j. inr (⊎_elim (λ q. q) absurd j, e))
-      (in_cases E (M.own (last C)) (C ∷ []) (subst (In E) (entered_own M C) (subst (λ g. In E ((entered C M).own g)) e h))))
-      (λ a. inl (subst (In E) (entered_apart M C l a) h)) (cases_eq l (last C))
 
   use_cases : (x : ℕ) (P : List Ref → Type 0) → (has x (front C) ≡ true → P (M.uses x ++ (live (last C) (length (M.own (last C))) ∷ []))) → P (M.uses x) → P ((entered C M).uses x)
   unfolding entered
@@ -99,8 +93,8 @@ module _ (C : List ℕ) (M : Meaning) (L : Lawful M) (ok : enterable M C ≡ tru
 
   pub entered_lawful : Lawful (entered C M)
   entered_lawful = record {
-    formed = λ l E h. ⊎_elim (L.formed l E) (λ (q, e). ap well_formed q ∙ (and_parts (well_formed C) (ltb (kept_clauses M) M.room) ok).0) (own_cases l E h);
-    placed = λ l E h. ⊎_elim (L.placed l E) (λ (q, e). ap last q ∙ sym e) (own_cases l E h);
+    formed = λ l E h. ⊎_elim (L.formed l E) (λ (q, e). ap well_formed q ∙ (and_parts (well_formed C) (ltb (kept_clauses M) M.room) ok).0) (entered_cases M C l E h);
+    placed = λ l E h. ⊎_elim (L.placed l E) (λ (q, e). ap last q ∙ sym e) (entered_cases M C l E h);
     bounded = entered_bounded;
     named = entered_named;
     once = entered_once;
@@ -115,13 +109,6 @@ module _ (C : List ℕ) (M : Meaning) (L : Lawful M) (ok : enterable M C ≡ tru
 -- ## Removing
 
 module _ (l i : ℕ) (M : Meaning) (L : Lawful M) (li : i < length (M.own l)) where
-  removed_origin : (x : ℕ) (s : Ref) → In s ((removed l i M).uses x) → (r : Ref) × In r (M.uses x) × (is_at l i r ≡ false) × (s ≡ moved_ref l (length (M.own l) - 1) i r)
-  unfolding removed
-  removed_origin x s h =
-      let (r, k, e) = map_in (moved_ref l (length (M.own l) - 1) i) s (filter (λ r. not (is_at l i r)) (M.uses x)) h in
-      let (o, t) = kept_in (λ r. not (is_at l i r)) r (M.uses x) k in
-      (r, o, not-true (is_at l i r) t, e)
-
   -- the place of a ref after the removal is there
   moved_there : (a b k j : ℕ) → b < length (M.own a) → is_at l i (live a b) ≡ false → live k j ≡ moved_ref l (length (M.own l) - 1) i (live a b) → j < length ((removed l i M).own k)
   moved_there a b k j lb f e = ⊎_elim at_end elsewhere (cases_Bool (is_at l (length (M.own l) - 1) (live a b)))
@@ -147,7 +134,7 @@ module _ (l i : ℕ) (M : Meaning) (L : Lawful M) (li : i < length (M.own l)) wh
           not_end p q = grind (arith, nat_tests)
 
   removed_named : (x k j : ℕ) → In (live k j) ((removed l i M).uses x) → j < length ((removed l i M).own k)
-  removed_named x k j h = go (removed_origin x (live k j) h)
+  removed_named x k j h = go (removed_origin M l i x (live k j) h)
     where
       go : (r : Ref) × In r (M.uses x) × (is_at l i r ≡ false) × (live k j ≡ moved_ref l (length (M.own l) - 1) i r) → j < length ((removed l i M).own k)
       go (dead, o, f, e) = absurd (live_dead k j e)
