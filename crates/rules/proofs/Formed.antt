@@ -57,7 +57,7 @@ not_nil_some (x ∷ C) h = omega arith
 
 kept_shorter : (p : ℕ → Bool) (C : List ℕ) → length (filter p C) ≤ length C
 kept_shorter p [] = omega arith
-kept_shorter p (x ∷ C) = cond_both (p x) (x ∷ filter p C) (filter p C) (λ D. length D ≤ length (x ∷ C)) (λ e. omega (arith, kept_shorter p C)) (λ e. omega (arith, kept_shorter p C))
+kept_shorter p (x ∷ C) = grind (arith, kept_shorter p C)
 
 pub without_shorter : (x : ℕ) (C : List ℕ) → length (without x C) ≤ length C
 without_shorter x C = kept_shorter (λ l. not (eqb l x)) C

@@ -186,14 +186,10 @@ module _ (M : Meaning) (C : List ℕ) where
     uses_is x = ap (λ b. with_use (b && has x (front C)) (M.uses x) (live (last C) (length (M.own (last C))))) I.on
 
     use_cases : (x : ℕ) (r : Ref) → In r ((entered C M).uses x) → In r (M.uses x) ⊎ ((r ≡ live (last C) (length (M.own (last C)))) × In x (front C))
-    use_cases x r h = cond_both (has x (front C)) (M.uses x ++ (live (last C) (length (M.own (last C))) ∷ [])) (M.uses x)
-        (λ rs. In r rs → In r (M.uses x) ⊎ ((r ≡ live (last C) (length (M.own (last C)))) × In x (front C)))
-        (λ e j. ⊎_elim inl (λ k. inr (⊎_elim (λ q. q) absurd k, has_in x (front C) e)) (in_cases r (M.uses x) (live (last C) (length (M.own (last C))) ∷ []) j))
-        (λ e j. inl j) (subst (In r) (uses_is x) h)
+    use_cases x r h = let i = subst (In r) (uses_is x) h in grind (arith, i, in_cases r (M.uses x) (live (last C) (length (M.own (last C))) ∷ []), has_in x (front C))
 
     use_old : (x : ℕ) (r : Ref) → In r (M.uses x) → In r ((entered C M).uses x)
-    use_old x r h = subst (In r) (sym (uses_is x))
-        (cond_both (has x (front C)) (M.uses x ++ (live (last C) (length (M.own (last C))) ∷ [])) (M.uses x) (In r) (λ e. in_left r (M.uses x) (live (last C) (length (M.own (last C))) ∷ []) h) (λ e. h))
+    use_old x r h = subst (In r) (sym (uses_is x)) (grind (arith, h, in_left r (M.uses x)))
 
     use_new : (x : ℕ) → In x (front C) → In (live (last C) (length (M.own (last C)))) ((entered C M).uses x)
     use_new x h = subst (In (live (last C) (length (M.own (last C))))) (sym (uses_is x))

@@ -118,14 +118,12 @@ swept_is (D ∷ Ds) C o = met_is C D Ds o (λ B ob. swept_is Ds B ob) (fits_but_
 placed_in : (C : List ℕ) (Ds : List (List ℕ)) (E : List ℕ) → In E (placed C Ds) → In E (C ∷ Ds)
 unfolding placed
 placed_in C [] E i = i
-placed_in C (D ∷ Ds) E i = cond_both (ltb (length D) (length C)) (D ∷ placed C Ds) (C ∷ D ∷ Ds) (λ xs. In E xs → In E (C ∷ D ∷ Ds))
-    (λ e j. ⊎_elim (λ q. inr (inl q)) (λ k. ⊎_elim inl (λ m. inr (inr m)) (placed_in C Ds E k)) j) (λ e j. j) i
+placed_in C (D ∷ Ds) E i = grind (arith, placed_in C Ds E)
 
 in_placed : (C : List ℕ) (Ds : List (List ℕ)) (E : List ℕ) → In E (C ∷ Ds) → In E (placed C Ds)
 unfolding placed
 in_placed C [] E i = i
-in_placed C (D ∷ Ds) E i = cond_both (ltb (length D) (length C)) (D ∷ placed C Ds) (C ∷ D ∷ Ds) (In E)
-    (λ e. ⊎_elim (λ q. inr (in_placed C Ds E (inl q))) (⊎_elim inl (λ k. inr (in_placed C Ds E (inr k)))) i) (λ e. i)
+in_placed C (D ∷ Ds) E i = grind (arith, in_placed C Ds E)
 
 sorted_in : (Cs : List (List ℕ)) (E : List ℕ) → In E (by_length Cs) → In E Cs
 unfolding by_length

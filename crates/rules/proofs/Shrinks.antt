@@ -36,14 +36,12 @@ from_length : (f : ℕ) (Cs : List (List ℕ)) → length (lemmas_from f Cs) ≤
 unfolding lemmas_from
 from_length zero Cs = omega arith
 from_length (suc f) [] = omega arith
-from_length (suc f) (C ∷ Cs) = let s = swept_length Cs C in
-    cond_both (swept Cs C).again (lemmas_from f ((swept Cs C).first ∷ (swept Cs C).rest)) ((swept Cs C).first ∷ lemmas_from f (swept Cs C).rest) (λ xs. length xs ≤ suc (length Cs))
-    (λ e. omega (arith, from_length f ((swept Cs C).first ∷ (swept Cs C).rest), s)) (λ e. omega (arith, from_length f (swept Cs C).rest, s))
+from_length (suc f) (C ∷ Cs) = grind (arith, swept_length Cs C, from_length f ((swept Cs C).first ∷ (swept Cs C).rest), from_length f (swept Cs C).rest)
 
 placed_length : (C : List ℕ) (Ds : List (List ℕ)) → length (placed C Ds) ≡ suc (length Ds)
 unfolding placed
 placed_length C [] = refl
-placed_length C (D ∷ Ds) = cond_both (ltb (length D) (length C)) (D ∷ placed C Ds) (C ∷ D ∷ Ds) (λ xs. length xs ≡ suc (suc (length Ds))) (λ e. ap suc (placed_length C Ds)) (λ e. refl)
+placed_length C (D ∷ Ds) = grind (arith, placed_length C Ds)
 
 sorted_length : (Cs : List (List ℕ)) → length (by_length Cs) ≡ length Cs
 unfolding by_length
