@@ -29,6 +29,7 @@ use Rattle.rules.proofs.Clear.{Left, Cleared, clear_is, clear_all_is, clear_all_
 use Rattle.rules.proofs.Adds.{entered_plus, entered_placed}
 use Rattle.rules.proofs.Plus.{plus, plus_own, plus_unit, plus_cases, plus_kept, minus_kept, reason_drop, unit_owner}
 use Rattle.rules.proofs.Facts.{none_some}
+use Rattle.rules.proofs.Lives.{clear_part}
 use Rattle.network.proofs.Ordered.{ordered_once, ordered_within}
 use Rattle.std.proofs.lemmas.List.{append-nil, get_or_append_left, get_or_past, length-append, length-replicate}
 use Rattle.network.proofs.Values.{simplified_ordered}
@@ -95,7 +96,7 @@ unit_node k true S e = (2 * k, subst (In (2 * k)) (sym e) (inl refl), omega arit
 unit_node k false S e = (2 * k + 1, subst (In (2 * k + 1)) (sym e) (inl refl), omega arith)
 
 mark_below : (marks : List Bool) (j : ℕ) → get_or marks j false ≡ true → j < length marks
-mark_below marks j e = ⊎_elim (λ l. l) (λ l. absurd (both_ways (get_or marks j false) (get_or_past marks j false l) e)) (cases_lt j (length marks))
+mark_below marks j e = grind (arith, get_or_past marks j false, cases_lt j (length marks))
 
 -- what a node's turn leaves alone
 pub record Turn (m : ℕ) (W N : Work) : Type 0 where
@@ -228,14 +229,10 @@ module _ (first : Network) (n : ℕ) (gone frozen : Assignment) where
     -- marked clauses of own l go, each for a reason
     module _ (l : ℕ) (marks : List Bool) (le : length marks ≤ length (W.store.own l))
         (why : (j : ℕ) → j < length (W.store.own l) → get_or marks j false ≡ true → Reason W.values (get_or (W.store.own l) j [])) where
-      clear_part : (k : ℕ) (E : List ℕ) → In E ((clear l marks W.store).own k) → In E (W.store.own k)
-      clear_part k E h = ⊎_elim (λ e. subst (λ g. In E (W.store.own g)) (sym e) (let (j, lj, u, q) = (clear_is l marks W.store le).left E (subst (λ g. In E ((clear l marks W.store).own g)) e h) in subst (λ D. In D (W.store.own l)) q (in_at (W.store.own l) j [] lj)))
-          (λ a. subst (In E) ((clear_is l marks W.store le).apart k a) h) (cases_eq k l)
-
       cleared_consting : Consting (storing W (clear l marks W.store))
       cleared_consting = record {
         kc = reason_drop first P n gone frozen c.kc (plus (held (clear l marks W.store)) W.values gone) part lost;
-        placed = λ k E h. c.placed k E (clear_part k E h);
+        placed = λ k E h. c.placed k E (clear_part l marks W.store k E h);
         valued = c.valued;
         old = c.old;
       }
@@ -244,7 +241,7 @@ module _ (first : Network) (n : ℕ) (gone frozen : Assignment) where
           M = clear l marks W.store
 
           part : (k : ℕ) (E : List ℕ) → In E (plus (held M) W.values gone k) → In E (P k)
-          part k E h = ⊎_elim (λ j. let (g, q, o) = in_held M k E j in subst (λ g. In E (P g)) q (in_plus g E (clear_part g E o)))
+          part k E h = ⊎_elim (λ j. let (g, q, o) = in_held M k E j in subst (λ g. In E (P g)) q (in_plus g E (clear_part l marks W.store g E o)))
               (λ (b, g, u, q). subst (λ D. In D (P k)) (sym q) (plus_unit (held W.store) W.values gone k b g u)) (plus_cases (held M) W.values gone k E h)
 
           by_reason : (E : List ℕ) → In E (W.store.own l) → Reason W.values E → ((B : List ℕ) × In B (plus (held M) W.values gone (owner B)) × Subsumes B E) ⊎ ((b : Bool) × In (unit_of (node l) b) (plus (held M) W.values gone (node l)))

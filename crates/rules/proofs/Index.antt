@@ -228,6 +228,15 @@ in_from (suc m) i k l u = ⊎_elim (λ e. inl e) (λ a. inr (in_from m (suc i) k
 pub in_up_to : (m k : ℕ) → k < m → In k (up_to m)
 in_up_to m k l = in_from m 0 k (omega arith) (omega arith)
 
+pub map_from : {X : Type 0} (f : ℕ → X) (d : X) (t i k : ℕ) → k < t → get_or (map f (from i t)) k d ≡ f (i + k)
+map_from f d zero i k l = absurd (omega arith)
+map_from f d (suc t) i zero l = ap f (omega arith)
+map_from f d (suc t) i (suc k) l = map_from f d t (suc i) k (omega arith) ∙ ap f (omega arith)
+
+pub from_length : (t i : ℕ) → length (from i t) ≡ t
+from_length zero i = refl
+from_length (suc t) i = ap suc (from_length t (suc i))
+
 pub places_named : (x l : ℕ) (Cs : List (List ℕ)) (i k j : ℕ) → In (live k j) (places x l i Cs) → (k ≡ l) × (i ≤ j) × (j < i + length Cs) × In x (front (get_or Cs (j - i) []))
 unfolding places
 places_named x l [] i k j h = absurd h
@@ -255,8 +264,7 @@ places_every x l (C ∷ Cs) i (suc j) lj h =
 pub places_live : (x l : ℕ) (Cs : List (List ℕ)) (i : ℕ) → In dead (places x l i Cs) → ⊥
 unfolding places
 places_live x l [] i h = h
-places_live x l (C ∷ Cs) i h = cond_both (has x (front C)) (live l i ∷ places x l (suc i) Cs) (places x l (suc i) Cs) (λ rs. In dead rs → ⊥)
-    (λ e r. ⊎_elim (λ q. live_dead l i (sym q)) (places_live x l Cs (suc i)) r) (λ e r. places_live x l Cs (suc i) r) h
+places_live x l (C ∷ Cs) i h = grind (arith, live_dead l i, places_live x l Cs (suc i))
 
 -- what is filled names the places that are there
 pub filled_named : (M : Meaning) (x k j : ℕ) → In (live k j) ((filled M).uses x) → (j < length (M.own k)) × In x (front (get_or (M.own k) j []))

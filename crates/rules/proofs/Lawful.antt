@@ -10,7 +10,7 @@ use Rattle.network.specs.Clauses.{has, last, front, without, well_formed}
 use Rattle.network.proofs.Lists.{in_cases, kept_in, map_in, any_none, flat_map_in, has_in}
 use Rattle.rules.specs.Store.{Ref, live, dead, Meaning, is_at, is_dead, from, literals, sum_of, how_many, live_clauses, kept_clauses, emptied, with_use, entered, moved_ref, removed, after_retired, referred, retired, shortened, filled, index_on, index_off, present, enterable, droppable}
 use Rattle.rules.specs.Lawful.{Lawful}
-use Rattle.rules.proofs.Places.{in_at, closed_in, set_in, retired_own, retired_apart, shortened_own, shortened_apart, shortened_length}
+use Rattle.rules.proofs.Places.{in_at, closed_in, set_in, retired_own, retired_apart, shortened_own, shortened_apart, shortened_length, part_at}
 use Rattle.rules.proofs.Index.{live_lit, live_place, live_dead, at_is, moved_here, moved_not, removed_apart, removed_length, removed_origin, entered_cases, entered_own, entered_apart, old_stays, filled_named, filled_live, in_up_to}
 use Rattle.rules.proofs.HowMany.{count_either, count_more, count_kept, count_map, count_none, count_append, count_one, sum_part}
 use Rattle.rules.proofs.Once.{is_at_of, removed_once, index_once}
@@ -178,15 +178,11 @@ module _ (l i : ℕ) (M : Meaning) (L : Lawful M) (li : i < length (M.own l)) wh
 -- a ref once a place is retired
 after_cases : (l i a b : ℕ)
     → ((a ≡ l) × (b ≡ i) × (after_retired l i (live a b) ≡ dead)) ⊎ (((a ≡ l) × (i < b) × (after_retired l i (live a b) ≡ live a (b - 1))) ⊎ ((a ≡ l → b < i) × (after_retired l i (live a b) ≡ live a b)))
-after_cases l i a b = ⊎_elim
-    (λ p. ⊎_elim (λ q. inl (p, q, grind (arith, nat_tests)))
-    (λ q. ⊎_elim (λ w. inr (inl (p, w, grind (arith, nat_tests)))) (λ w. inr (inr ((λ z. omega (arith, w, q)), grind (arith, nat_tests)))) (cases_lt i b)) (cases_eq b i))
-    (λ p. inr (inr ((λ z. absurd (p z)), grind (arith, nat_tests)))) (cases_eq a l)
+after_cases l i a b = grind (arith, nat_tests, cases_lt i b, cases_eq b i, cases_eq a l)
 
 module _ (l i : ℕ) (M : Meaning) (L : Lawful M) (li : i < length (M.own l)) where
   retired_here : (k : ℕ) (E : List ℕ) → In E ((retired l i M).own k) → In E (M.own k)
-  retired_here k E h = ⊎_elim (λ e. subst (λ g. In E (M.own g)) (sym e) (closed_in (M.own l) i E (subst (In E) (retired_own M l i) (subst (λ g. In E ((retired l i M).own g)) e h))))
-      (λ a. subst (In E) (retired_apart M l i k a) h) (cases_eq k l)
+  retired_here = part_at M (retired l i M) l (retired_apart M l i) (λ E h. closed_in (M.own l) i E (subst (In E) (retired_own M l i) h))
 
   shorter : suc (length ((retired l i M).own l)) ≡ length (M.own l)
   shorter = omega (arith, ap length (retired_own M l i), length-remove (M.own l) i li)
@@ -244,7 +240,7 @@ module _ (l i : ℕ) (M : Meaning) (L : Lawful M) (li : i < length (M.own l)) wh
 
   dead_after : (r : Ref) → is_dead (after_retired l i r) ≡ true → (is_dead r ≡ true) ⊎ (is_at l i r ≡ true)
   dead_after dead e = inl refl
-  dead_after (live a b) e = ⊎_elim (λ (p, q, w). inr (grind (arith, nat_tests))) (⊎_elim (λ (p, q, w). inl (ap is_dead (sym w) ∙ e)) (λ (f, w). inl (ap is_dead (sym w) ∙ e))) (after_cases l i a b)
+  dead_after (live a b) e = grind (arith, nat_tests)
 
   -- a literal that refers to the place, if the store has none
   unreferred : (x : ℕ) → referred M l i ≡ false → how_many (is_at l i) (M.uses x) ≡ 0

@@ -128,12 +128,12 @@ in_placed C (D ∷ Ds) E i = grind (arith, in_placed C Ds E)
 sorted_in : (Cs : List (List ℕ)) (E : List ℕ) → In E (by_length Cs) → In E Cs
 unfolding by_length
 sorted_in [] E i = i
-sorted_in (C ∷ Cs) E i = ⊎_elim inl (λ j. inr (sorted_in Cs E j)) (placed_in C (by_length Cs) E i)
+sorted_in (C ∷ Cs) E i = grind (arith, sorted_in Cs E, placed_in C (by_length Cs) E)
 
 in_sorted : (Cs : List (List ℕ)) (E : List ℕ) → In E Cs → In E (by_length Cs)
 unfolding by_length
 in_sorted [] E i = i
-in_sorted (C ∷ Cs) E i = in_placed C (by_length Cs) E (⊎_elim inl (λ j. inr (in_sorted Cs E j)) i)
+in_sorted (C ∷ Cs) E i = grind (arith, in_sorted Cs E, in_placed C (by_length Cs) E)
 
 from_is : (f : ℕ) (Cs : List (List ℕ)) → OrderedAll Cs → SaysSame Cs (lemmas_from f Cs)
 unfolding lemmas_from

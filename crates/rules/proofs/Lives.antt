@@ -1,5 +1,5 @@
 -- How many clauses are live after a change. Assumes nothing.
-use Rattle.std.proofs.Common.{◌≡◌, ℕ, suc, ◌-◌, ◌<◌, ◌≤◌, List, [], ◌∷◌, map, length, get_or, sym, refl, ap, ◌∙◌, subst, ⊎_elim, arith}
+use Rattle.std.proofs.Common.{◌≡◌, ℕ, suc, ◌-◌, ◌<◌, ◌≤◌, List, [], ◌∷◌, map, length, get_or, sym, refl, ap, ◌∙◌, subst, ⊎_elim, arith, Bool}
 use Rattle.std.specs.List.{swap_remove}
 use Rattle.std.proofs.lemmas.Bool.{cases_eq, cond_both, ltb-true}
 use Rattle.std.proofs.lemmas.List.Edits.{length-remove}
@@ -7,10 +7,11 @@ use Rattle.std.proofs.lemmas.List.{length-append}
 use Rattle.network.specs.Lists.{In}
 use Rattle.network.specs.Clauses.{last}
 use Rattle.rules.specs.Store.{Meaning, literals, sum_of, live_clauses, kept_clauses, entered, removed, retired, shortened, index_on, index_off, present, droppable, retire, shorten}
-use Rattle.rules.proofs.Places.{in_at, at_in, retired_own, retired_apart, shortened_length}
+use Rattle.rules.proofs.Places.{in_at, at_in, retired_own, retired_apart, shortened_length, part_at}
 use Rattle.rules.proofs.Index.{removed_own, removed_apart, removed_length, swap_length, swap_here, swap_other, entered_own, entered_apart}
-use Rattle.rules.proofs.Along.{fewer_chains, allowed_along}
+use Rattle.rules.proofs.Along.{fewer_chains, allowed_along, clear_along}
 use Rattle.rules.proofs.HowMany.{sum_apart, sum_less, sum_up, sum_le}
+use Rattle.rules.specs.Work.{clear}
 
 pub entered_live : (C : List ℕ) (M : Meaning) → live_clauses (entered C M) ≤ suc (live_clauses M)
 unfolding live_clauses
@@ -41,8 +42,10 @@ swap_part i xs E h =
     (λ a. subst (λ D. In D xs) (sym (swap_other [] i j xs lt a) ∙ e) (in_at xs j [] (omega arith))) (cases_eq j i)
 
 pub removed_part : (M : Meaning) (l i k : ℕ) (E : List ℕ) → In E ((removed l i M).own k) → In E (M.own k)
-removed_part M l i k E h = ⊎_elim (λ e. subst (λ g. In E (M.own g)) (sym e) (swap_part i (M.own l) E (subst (In E) (removed_own M l i) (subst (λ g. In E ((removed l i M).own g)) e h))))
-    (λ a. subst (In E) (removed_apart M l i k a) h) (cases_eq k l)
+removed_part M l i = part_at M (removed l i M) l (removed_apart M l i) (λ E h. swap_part i (M.own l) E (subst (In E) (removed_own M l i) h))
+
+pub clear_part : (l : ℕ) (marks : List Bool) (M : Meaning) (k : ℕ) (E : List ℕ) → In E ((clear l marks M).own k) → In E (M.own k)
+clear_part l marks M k E = clear_along (λ M N. In E (N.own k) → In E (M.own k)) (record { same = λ M h. h; next = λ M N P f g h. f (g h) }) (λ l i M h. removed_part M l i k E) l marks M
 
 pub retired_live : (M : Meaning) (l i : ℕ) → l < 2048 → i < length (M.own l) → suc (live_clauses (retired l i M)) ≡ live_clauses M
 retired_live M l i b li = less_at M (retired l i M) l b (retired_apart M l i) (omega (arith, ap length (retired_own M l i), length-remove (M.own l) i li))

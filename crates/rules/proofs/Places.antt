@@ -108,9 +108,7 @@ module _ (M : Meaning) (l i : ℕ) where
   pub retired_at : (j : ℕ) → i < length (M.own l) → j < length (M.own l) → (j ≡ i → ⊥)
       → (cond (ltb i j) (j - 1) j < length ((retired l i M).own l)) × (get_or ((retired l i M).own l) (cond (ltb i j) (j - 1) j) [] ≡ get_or (M.own l) j [])
   retired_at j li lj a = subst (λ xs. (cond (ltb i j) (j - 1) j < length xs) × (get_or xs (cond (ltb i j) (j - 1) j) [] ≡ get_or (M.own l) j [])) (sym retired_own)
-      (cond_both (ltb i j) (j - 1) j (λ p. (p < length (remove (M.own l) i)) × (get_or (remove (M.own l) i) p [] ≡ get_or (M.own l) j []))
-      (λ e. (grind (arith, nat_tests, length-remove (M.own l) i li), get_or-remove_above (M.own l) i [] (j - 1) (grind (arith, nat_tests)) li ∙ ap (λ p. get_or (M.own l) p []) (grind (arith, nat_tests))))
-      (λ e. (grind (arith, nat_tests, length-remove (M.own l) i li), get_or-remove_below (M.own l) i [] j (grind (arith, nat_tests)) li)))
+      (grind (arith, nat_tests, length-remove (M.own l) i li, get_or-remove_above (M.own l) i [] (j - 1), get_or-remove_below (M.own l) i [] j))
 
   module _ (x : ℕ) where
     pub shortened_own : (shortened l i x M).own l ≡ set (M.own l) i (without x (get_or (M.own l) i []))
@@ -145,6 +143,10 @@ module _ (M : Meaning) (l i : ℕ) where
     shortened_other k j a = ⊎_elim
         (λ e. subst (λ g. get_or ((shortened l i x M).own g) j [] ≡ get_or (M.own g) j []) (sym e) (ap (λ xs. get_or xs j []) shortened_own ∙ get_or-set_other (M.own l) i j (without x (get_or (M.own l) i [])) [] (a e)))
         (λ d. ap (λ xs. get_or xs j []) (shortened_apart k d)) (cases_eq k l)
+
+-- one list changed, with no clause that was not there
+pub part_at : (M N : Meaning) (l : ℕ) → ((k : ℕ) → (k ≡ l → ⊥) → N.own k ≡ M.own k) → ((E : List ℕ) → In E (N.own l) → In E (M.own l)) → (k : ℕ) (E : List ℕ) → In E (N.own k) → In E (M.own k)
+part_at M N l a f k E h = ⊎_elim (λ e. subst (λ g. In E (M.own g)) (sym e) (f E (subst (λ g. In E (N.own g)) e h))) (λ d. subst (In E) (a k d) h) (cases_eq k l)
 
 -- one list changed, and each clause is still in the list of its last literal
 pub placed_changed : (M N : Meaning) (l : ℕ) → ((k : ℕ) → (k ≡ l → ⊥) → N.own k ≡ M.own k) → ((E : List ℕ) → In E (N.own l) → last E ≡ l) → Placed M → Placed N

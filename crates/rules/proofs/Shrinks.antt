@@ -127,9 +127,6 @@ cost_live M L I v = omega (arith, taken_out_less v all L I (λ l E i. omega (ari
 
 -- ## Clearing
 
-pub clear_part : (l : ℕ) (marks : List Bool) (M : Meaning) (k : ℕ) (E : List ℕ) → In E ((clear l marks M).own k) → In E (M.own k)
-clear_part l marks M k E = clear_along (λ M N. In E (N.own k) → In E (M.own k)) (record { same = λ M h. h; next = λ M N P f g h. f (g h) }) (λ l i M h. removed_part M l i k E) l marks M
-
 pub clear_room : (l : ℕ) (marks : List Bool) (M : Meaning) → (clear l marks M).room ≡ M.room
 unfolding removed
 clear_room = clear_along (λ M N. N.room ≡ M.room) (equal_chains (λ M. M.room)) (λ l i M h. refl)

@@ -27,10 +27,10 @@ use Rattle.rules.proofs.HowMany.{sum_apart, sum_part}
 use Rattle.rules.proofs.Along.{fewer_chains, each_along, both_along}
 use Rattle.rules.proofs.Passes.{index_on_keeps, taken_out_keeps, attempt_keeps}
 use Rattle.rules.proofs.Bve.{GoodIndexed, attempt_good, index_good, eliminated_any}
-use Rattle.rules.proofs.Shrinks.{lemmas_length, lemmas_short, taken_out_less, taken_out_dead, clear_part, clear_kept, clear_room}
+use Rattle.rules.proofs.Shrinks.{lemmas_length, lemmas_short, taken_out_less, taken_out_dead, clear_kept, clear_room}
 use Rattle.rules.proofs.Accepted.{AllFormed, AllShort, adds_accepted, adds_short, judged_accepted, judged_short, judged_kept, adds_live}
 use Rattle.rules.proofs.Const as const
-use Rattle.rules.proofs.Lives.{index_live, unindex_live, removed_kept}
+use Rattle.rules.proofs.Lives.{index_live, unindex_live, removed_kept, clear_part}
 
 -- ## What is well formed
 

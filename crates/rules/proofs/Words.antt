@@ -12,6 +12,7 @@ use Rattle.rules.specs.Work.{Work, nodes_of}
 use Rattle.rules.specs.Calls.{handed_out, runs_out, ends, count_out, words_out}
 use Rattle.rules.specs.Theorem.{ReadAs}
 use Rattle.rules.proofs.Const.{suc_from}
+use Rattle.rules.proofs.Index.{map_from, from_length}
 
 -- ## Runs one after another
 
@@ -47,15 +48,6 @@ before_all : (Rs : List (List ℕ)) → before (length Rs) Rs ≡ length (flat_m
 unfolding before
 before_all [] = refl
 before_all (r ∷ Rs) = omega (arith, before_all Rs, length-append r (flat_map (λ r. r) Rs))
-
-map_from : {X : Type 0} (f : ℕ → X) (d : X) (t i k : ℕ) → k < t → get_or (map f (from i t)) k d ≡ f (i + k)
-map_from f d zero i k l = absurd (omega arith)
-map_from f d (suc t) i zero l = ap f (omega arith)
-map_from f d (suc t) i (suc k) l = map_from f d t (suc i) k (omega arith) ∙ ap f (omega arith)
-
-from_length : (t i : ℕ) → length (from i t) ≡ t
-from_length zero i = refl
-from_length (suc t) i = ap suc (from_length t (suc i))
 
 -- ## The image
 
