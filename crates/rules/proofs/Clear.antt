@@ -34,32 +34,10 @@ module _ (l : ℕ) where
 
   module _ (i : ℕ) (marks : List Bool) (M : Meaning) (len : length marks ≡ length (M.own l)) (li : i < length (M.own l)) (t : get_or marks i false ≡ true) where
     swapped_left : (E : List ℕ) → Left (swap_remove marks i false) ((removed l i M).own l) E → Left marks (M.own l) E
-    swapped_left E (j, lj, u, e) =
-        let lt : j < length (M.own l) - 1 = omega (arith, removed_length M l i) in
-        let lt' : j < length marks - 1 = omega (arith, len) in
-        ⊎_elim
-        (λ q. (
-          length (M.own l) - 1,
-          omega arith,
-          ap (λ m. get_or marks (m - 1) false) (sym len) ∙ sym (swap_here false i marks (omega (arith, q))) ∙ ap (λ g. get_or (swap_remove marks i false) g false) (sym q) ∙ u,
-          sym (swap_here [] i (M.own l) (omega (arith, q))) ∙ ap (λ xs. get_or xs i []) (sym (removed_own M l i)) ∙ ap (λ g. get_or ((removed l i M).own l) g []) (sym q) ∙ e,
-        ))
-        (λ a. (j, omega arith, sym (swap_other false i j marks lt' a) ∙ u, sym (swap_other [] i j (M.own l) lt a) ∙ ap (λ xs. get_or xs j []) (sym (removed_own M l i)) ∙ e))
-        (cases_eq j i)
+    swapped_left E (j, lj, u, e) = grind (arith, len, removed_length M l i, removed_own M l i, swap_here false i marks, swap_here [] i (M.own l), swap_other false i j marks, swap_other [] i j (M.own l), cases_eq j i)
 
     swapped_stays : (E : List ℕ) → Left marks (M.own l) E → Left (swap_remove marks i false) ((removed l i M).own l) E
-    swapped_stays E (j, lj, u, e) =
-        let ne : j ≡ i → ⊥ = λ q. both_ways (get_or marks i false) (ap (λ g. get_or marks g false) (sym q) ∙ u) t in
-        ⊎_elim
-        (λ q. let lt : i < length (M.own l) - 1 = omega (arith, q, ne) in (
-          i,
-          omega (arith, removed_length M l i),
-          swap_here false i marks (omega (arith, len)) ∙ ap (λ g. get_or marks g false) (omega (arith, len, q)) ∙ u,
-          ap (λ xs. get_or xs i []) (removed_own M l i) ∙ swap_here [] i (M.own l) lt ∙ ap (λ g. get_or (M.own l) g []) (sym q) ∙ e,
-        ))
-        (λ a. let lt : j < length (M.own l) - 1 = omega (arith, a) in
-        (j, omega (arith, removed_length M l i), swap_other false i j marks (omega (arith, len)) ne ∙ u, ap (λ xs. get_or xs j []) (removed_own M l i) ∙ swap_other [] i j (M.own l) lt ne ∙ e))
-        (cases_eq j (length (M.own l) - 1))
+    swapped_stays E (j, lj, u, e) = grind (arith, len, t, removed_length M l i, removed_own M l i, swap_here false i marks, swap_here [] i (M.own l), swap_other false i j marks, swap_other [] i j (M.own l), cases_eq j (length (M.own l) - 1))
 
     still_unmarked : ((j : ℕ) → j < i → get_or marks j false ≡ false) → (j : ℕ) → j < i → get_or (swap_remove marks i false) j false ≡ false
     still_unmarked h j lj = swap_other false i j marks (omega (arith, len)) (λ q. omega arith) ∙ h j lj

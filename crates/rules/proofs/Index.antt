@@ -71,50 +71,7 @@ module _ (M : Meaning) (l i : ℕ) where
     -- a use after the removal
     use_named : (x k j a b : ℕ) → In (live a b) (M.uses x) → is_at l i (live a b) ≡ false → live k j ≡ moved_ref l (length (M.own l) - 1) i (live a b)
         → (j < length ((removed l i M).own k)) × In x (front (get_or ((removed l i M).own k) j []))
-    use_named x k j a b h f e = ⊎_elim here there (cases_Bool (is_at l (length (M.own l) - 1) (live a b)))
-      where
-        m : ℕ
-        m = length (M.own l) - 1
-
-        old : (b < length (M.own a)) × In x (front (get_or (M.own a) b []))
-        old = I.named x a b h
-
-        here : is_at l (length (M.own l) - 1) (live a b) ≡ true → (j < length ((removed l i M).own k)) × In x (front (get_or ((removed l i M).own k) j []))
-        here t =
-            let (al, bm) = at_is l (length (M.own l) - 1) a b t in
-            let e' : live k j ≡ live l i = e ∙ moved_here l (length (M.own l) - 1) i a b t in
-            let kl = live_lit k j l i e' in
-            let ji = live_place k j l i e' in
-            let ne : b ≡ i → ⊥ = λ q. both f (al, q) in
-            let lt : i < length (M.own l) - 1 = omega (arith, bm, ne) in
-            subst (λ g. (j < length ((removed l i M).own g)) × In x (front (get_or ((removed l i M).own g) j []))) (sym kl)
-            (subst (λ g. (g < length ((removed l i M).own l)) × In x (front (get_or ((removed l i M).own l) g []))) (sym ji) (
-              omega (arith, removed_length),
-              subst (λ C. In x (front C)) (sym (ap (λ xs. get_or xs i []) removed_own ∙ swap_here [] i (M.own l) lt))
-                  (subst (λ g. In x (front (get_or (M.own l) g []))) bm (subst (λ g. In x (front (get_or (M.own g) b []))) al old.1)),
-            ))
-          where
-            both : is_at l i (live a b) ≡ false → (a ≡ l) × (b ≡ i) → ⊥
-            both f (p, q) = grind (arith, nat_tests)
-
-        there : is_at l (length (M.own l) - 1) (live a b) ≡ false → (j < length ((removed l i M).own k)) × In x (front (get_or ((removed l i M).own k) j []))
-        there t =
-            let e' : live k j ≡ live a b = e ∙ moved_not l (length (M.own l) - 1) i a b t in
-            subst (λ g. (j < length ((removed l i M).own g)) × In x (front (get_or ((removed l i M).own g) j []))) (sym (live_lit k j a b e'))
-            (subst (λ g. (g < length ((removed l i M).own a)) × In x (front (get_or ((removed l i M).own a) g []))) (sym (live_place k j a b e')) same)
-          where
-            apart_of : (p : ℕ) → is_at l p (live a b) ≡ false → a ≡ l → b ≡ p → ⊥
-            apart_of p q al bp = grind (arith, nat_tests)
-
-            same : (b < length ((removed l i M).own a)) × In x (front (get_or ((removed l i M).own a) b []))
-            same = ⊎_elim
-                (λ al. let lt : b < length (M.own l) - 1 = omega (arith, subst (λ g. b < length (M.own g)) al old.0, apart_of (length (M.own l) - 1) t al) in
-                subst (λ g. (b < length ((removed l i M).own g)) × In x (front (get_or ((removed l i M).own g) b []))) (sym al) (
-                  omega (arith, removed_length),
-                  subst (λ C. In x (front C)) (sym (ap (λ xs. get_or xs b []) removed_own ∙ swap_other [] i b (M.own l) lt (apart_of i f al)))
-                      (subst (λ g. In x (front (get_or (M.own g) b []))) al old.1),
-                ))
-                (λ d. subst (λ xs. (b < length xs) × In x (front (get_or xs b []))) (sym (removed_apart a d)) old) (cases_eq a l)
+    use_named x k j a b h f e = grind (arith, nat_tests, I.named x a b h, removed_own, removed_apart a, removed_length, swap_here [] i (M.own l), swap_other [] i b (M.own l), at_is l (length (M.own l) - 1) a b, cases_eq a l, moved_here l (length (M.own l) - 1) i a b, moved_not l (length (M.own l) - 1) i a b)
 
     -- a ref that stays
     use_stays : (x a b k j : ℕ) → In (live a b) (M.uses x) → is_at l i (live a b) ≡ false → moved_ref l (length (M.own l) - 1) i (live a b) ≡ live k j → In (live k j) ((removed l i M).uses x)
@@ -124,23 +81,7 @@ module _ (M : Meaning) (l i : ℕ) where
         (in_map (moved_ref l (length (M.own l) - 1) i) (live a b) (filter (λ r. not (is_at l i r)) (M.uses x)) (in_kept (λ r. not (is_at l i r)) (live a b) (M.uses x) h (not_from_false (is_at l i (live a b)) f)))
 
     use_every : (x k j : ℕ) → j < length ((removed l i M).own k) → In x (front (get_or ((removed l i M).own k) j [])) → In (live k j) ((removed l i M).uses x)
-    use_every x k j lj h = ⊎_elim same (λ d. use_stays x k j k j (I.every x k j (subst (λ xs. j < length xs) (removed_apart k d) lj) (subst (λ xs. In x (front (get_or xs j []))) (removed_apart k d) h))
-        (at_not l i k j (λ p q. d p)) (moved_not l (length (M.own l) - 1) i k j (at_not l (length (M.own l) - 1) k j (λ p q. d p)))) (cases_eq k l)
-      where
-        at_l : (j < length ((removed l i M).own l)) → In x (front (get_or ((removed l i M).own l) j [])) → In (live l j) ((removed l i M).uses x)
-        at_l lj h =
-            let lt : j < length (M.own l) - 1 = omega (arith, removed_length) in
-            ⊎_elim
-            (λ e. subst (λ g. In (live l g) ((removed l i M).uses x)) (sym e)
-            (use_stays x l (length (M.own l) - 1) l i
-            (I.every x l (length (M.own l) - 1) (omega (arith, li)) (subst (λ C. In x (front C)) (ap (λ xs. get_or xs i []) removed_own ∙ swap_here [] i (M.own l) (omega (arith, e))) (subst (λ g. In x (front (get_or ((removed l i M).own l) g []))) e h)))
-            (at_not l i l (length (M.own l) - 1) (λ p q. omega (arith, e, q))) (moved_here l (length (M.own l) - 1) i l (length (M.own l) - 1) (is_here l (length (M.own l) - 1)))))
-            (λ d. use_stays x l j l j (I.every x l j (omega arith) (subst (λ C. In x (front C)) (ap (λ xs. get_or xs j []) removed_own ∙ swap_other [] i j (M.own l) lt d) h))
-            (at_not l i l j (λ p q. d q)) (moved_not l (length (M.own l) - 1) i l j (at_not l (length (M.own l) - 1) l j (λ p q. omega (arith, q)))))
-            (cases_eq j i)
-
-        same : k ≡ l → In (live k j) ((removed l i M).uses x)
-        same e = subst (λ g. In (live g j) ((removed l i M).uses x)) (sym e) (at_l (subst (λ g. j < length ((removed l i M).own g)) e lj) (subst (λ g. In x (front (get_or ((removed l i M).own g) j []))) e h))
+    use_every x k j lj h = grind (arith, nat_tests, removed_own, removed_apart k, removed_length, swap_here [] i (M.own l), swap_other [] i j (M.own l), I.every x k j, I.every x l (length (M.own l) - 1), use_stays x k j k j, use_stays x l (length (M.own l) - 1) l i, cases_eq k l, cases_eq j i, at_not l i k j, at_not l i l (length (M.own l) - 1), moved_here l (length (M.own l) - 1) i l (length (M.own l) - 1), is_here l (length (M.own l) - 1), moved_not l (length (M.own l) - 1) i k j, at_not l (length (M.own l) - 1) k j)
 
     pub removed_indexed : Indexed (removed l i M)
     removed_indexed = record { on = on'; named = λ x k j h. go x k j (removed_origin x (live k j) h); every = use_every; no_dead = λ x h. lost x (removed_origin x dead h) }
@@ -168,17 +109,10 @@ module _ (M : Meaning) (C : List ℕ) where
   entered_apart k a = changed_apart M.own (last C) (M.own (last C) ++ (C ∷ [])) k a
 
   pub entered_cases : (l : ℕ) (E : List ℕ) → In E ((entered C M).own l) → In E (M.own l) ⊎ ((E ≡ C) × (l ≡ last C))
-  entered_cases l E h = ⊎_elim
-      (λ e. ⊎_elim (λ j. inl (subst (λ g. In E (M.own g)) (sym e) j)) (λ j. inr (⊎_elim (λ q. q) absurd j, e))
-      (in_cases E (M.own (last C)) (C ∷ []) (subst (In E) entered_own (subst (λ g. In E ((entered C M).own g)) e h))))
-      (λ a. inl (subst (In E) (entered_apart l a) h)) (cases_eq l (last C))
+  entered_cases l E h = grind (arith, cases_eq l (last C), entered_own, entered_apart l, in_cases E (M.own (last C)) (C ∷ []))
 
   pub old_stays : (k j : ℕ) → j < length (M.own k) → (j < length ((entered C M).own k)) × (get_or ((entered C M).own k) j [] ≡ get_or (M.own k) j [])
-  old_stays k j l = ⊎_elim
-      (λ e. subst (λ g. (j < length ((entered C M).own g)) × (get_or ((entered C M).own g) j [] ≡ get_or (M.own g) j [])) (sym e)
-      (subst (λ xs. (j < length xs) × (get_or xs j [] ≡ get_or (M.own (last C)) j [])) (sym entered_own)
-      (omega (arith, length-append (M.own (last C)) (C ∷ []), subst (λ g. j < length (M.own g)) e l), get_or_append_left (M.own (last C)) (C ∷ []) [] j (subst (λ g. j < length (M.own g)) e l))))
-      (λ a. subst (λ xs. (j < length xs) × (get_or xs j [] ≡ get_or (M.own k) j [])) (sym (entered_apart k a)) (l, refl)) (cases_eq k (last C))
+  old_stays k j l = grind (arith, cases_eq k (last C), entered_own, entered_apart k, length-append (M.own (last C)) (C ∷ []), get_or_append_left (M.own (last C)) (C ∷ []) [] j)
 
   module _ (I : Indexed M) where
     uses_is : (x : ℕ) → (entered C M).uses x ≡ with_use (has x (front C)) (M.uses x) (live (last C) (length (M.own (last C))))
@@ -197,8 +131,7 @@ module _ (M : Meaning) (C : List ℕ) where
         (in_right (live (last C) (length (M.own (last C)))) (M.uses x) (live (last C) (length (M.own (last C))) ∷ []) (inl refl)))
 
     new_named : (x : ℕ) → In x (front C) → (length (M.own (last C)) < length ((entered C M).own (last C))) × In x (front (get_or ((entered C M).own (last C)) (length (M.own (last C))) []))
-    new_named x h = subst (λ xs. (length (M.own (last C)) < length xs) × In x (front (get_or xs (length (M.own (last C))) []))) (sym entered_own)
-        (omega (arith, length-append (M.own (last C)) (C ∷ [])), subst (λ E. In x (front E)) (sym (get_or_push (M.own (last C)) C [] (length (M.own (last C))) refl)) h)
+    new_named x h = grind (arith, entered_own, length-append (M.own (last C)) (C ∷ []), get_or_push (M.own (last C)) C [] (length (M.own (last C))) refl)
 
     pub entered_indexed : Indexed (entered C M)
     entered_indexed = record {
@@ -211,14 +144,7 @@ module _ (M : Meaning) (C : List ℕ) where
     }
       where
         last_every : (x k j : ℕ) → j < length ((entered C M).own k) → length (M.own k) ≤ j → In x (front (get_or ((entered C M).own k) j [])) → In (live k j) ((entered C M).uses x)
-        last_every x k j l m h = ⊎_elim
-            (λ e. let l' = subst (λ g. j < length ((entered C M).own g)) e l in
-            let m' = subst (λ g. length (M.own g) ≤ j) e m in
-            let q : j ≡ length (M.own (last C)) = omega (arith, subst (λ xs. j < length xs) entered_own l', length-append (M.own (last C)) (C ∷ []), m') in
-            subst (λ g. In (live g j) ((entered C M).uses x)) (sym e) (subst (λ g. In (live (last C) g) ((entered C M).uses x)) (sym q)
-            (use_new x (subst (λ E. In x (front E)) (ap (λ xs. get_or xs (length (M.own (last C))) []) entered_own ∙ get_or_push (M.own (last C)) C [] (length (M.own (last C))) refl)
-            (subst (λ g. In x (front (get_or ((entered C M).own (last C)) g []))) q (subst (λ g. In x (front (get_or ((entered C M).own g) j []))) e h))))))
-            (λ a. absurd (omega (arith, subst (λ xs. j < length xs) (entered_apart k a) l, m))) (cases_eq k (last C))
+        last_every x k j l m h = grind (arith, cases_eq k (last C), entered_own, entered_apart k, length-append (M.own (last C)) (C ∷ []), get_or_push (M.own (last C)) C [] j, use_new x)
 
 -- an index made
 pub in_from : (m i k : ℕ) → i ≤ k → k < i + m → In k (from i m)

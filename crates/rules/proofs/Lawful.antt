@@ -111,27 +111,7 @@ module _ (C : List ℕ) (M : Meaning) (L : Lawful M) (ok : enterable M C ≡ tru
 module _ (l i : ℕ) (M : Meaning) (L : Lawful M) (li : i < length (M.own l)) where
   -- the place of a ref after the removal is there
   moved_there : (a b k j : ℕ) → b < length (M.own a) → is_at l i (live a b) ≡ false → live k j ≡ moved_ref l (length (M.own l) - 1) i (live a b) → j < length ((removed l i M).own k)
-  moved_there a b k j lb f e = ⊎_elim at_end elsewhere (cases_Bool (is_at l (length (M.own l) - 1) (live a b)))
-    where
-      at_end : is_at l (length (M.own l) - 1) (live a b) ≡ true → j < length ((removed l i M).own k)
-      at_end t =
-          let (p, q) = at_is l (length (M.own l) - 1) a b t in
-          let w : live k j ≡ live l i = e ∙ moved_here l (length (M.own l) - 1) i a b t in
-          subst (λ g. j < length ((removed l i M).own g)) (sym (live_lit k j l i w)) (omega (arith, live_place k j l i w, removed_length M l i, not_here p, q))
-        where
-          not_here : a ≡ l → b ≡ i → ⊥
-          not_here p q = grind (arith, nat_tests)
-
-      elsewhere : is_at l (length (M.own l) - 1) (live a b) ≡ false → j < length ((removed l i M).own k)
-      elsewhere t =
-          let w : live k j ≡ live a b = e ∙ moved_not l (length (M.own l) - 1) i a b t in
-          let lj : j < length (M.own k) = subst (λ g. j < length (M.own g)) (sym (live_lit k j a b w)) (omega (arith, live_place k j a b w, lb)) in
-          ⊎_elim (λ q. subst (λ g. j < length ((removed l i M).own g)) (sym q)
-          (omega (arith, removed_length M l i, subst (λ g. j < length (M.own g)) q lj, not_end (sym (live_lit k j a b w) ∙ q), live_place k j a b w)))
-          (λ d. subst (λ xs. j < length xs) (sym (removed_apart M l i k d)) lj) (cases_eq k l)
-        where
-          not_end : a ≡ l → b ≡ length (M.own l) - 1 → ⊥
-          not_end p q = grind (arith, nat_tests)
+  moved_there a b k j lb f e = grind (arith, nat_tests, removed_length M l i, removed_apart M l i a)
 
   removed_named : (x k j : ℕ) → In (live k j) ((removed l i M).uses x) → j < length ((removed l i M).own k)
   removed_named x k j h = go (removed_origin M l i x (live k j) h)
@@ -188,14 +168,7 @@ module _ (l i : ℕ) (M : Meaning) (L : Lawful M) (li : i < length (M.own l)) wh
   shorter = omega (arith, ap length (retired_own M l i), length-remove (M.own l) i li)
 
   after_there : (a b k j : ℕ) → b < length (M.own a) → live k j ≡ after_retired l i (live a b) → j < length ((retired l i M).own k)
-  after_there a b k j lb e = ⊎_elim (λ (p, q, w). absurd (live_dead k j (e ∙ w)))
-      (⊎_elim
-      (λ (p, q, w). let s = e ∙ w in subst (λ g. j < length ((retired l i M).own g)) (sym (live_lit k j a (b - 1) s ∙ p))
-      (omega (arith, live_place k j a (b - 1) s, shorter, subst (λ g. b < length (M.own g)) p lb, q)))
-      (λ (f, w). let s = e ∙ w in subst (λ g. j < length ((retired l i M).own g)) (sym (live_lit k j a b s))
-      (⊎_elim (λ q. subst (λ g. j < length ((retired l i M).own g)) (sym q) (omega (arith, live_place k j a b s, shorter, f q, li)))
-      (λ d. subst (λ xs. j < length xs) (sym (retired_apart M l i a d)) (omega (arith, live_place k j a b s, lb))) (cases_eq a l))))
-      (after_cases l i a b)
+  after_there a b k j lb e = grind (arith, nat_tests, after_cases l i a b, retired_own M l i, retired_apart M l i a, shorter)
 
   retired_named : (x k j : ℕ) → In (live k j) ((retired l i M).uses x) → j < length ((retired l i M).own k)
   retired_named x k j h = go (origin h)
