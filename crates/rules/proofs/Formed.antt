@@ -11,11 +11,7 @@ use Rattle.network.proofs.Resolution.{in_without}
 pub order_is : (C : List ℕ) → in_order C ≡ true → Ordered C
 order_is [] e = tt
 order_is (x ∷ []) e = ((λ y i. absurd i), tt)
-order_is (x ∷ y ∷ C) e =
-    let (a, b) = and_parts (ltb (node x) (node y)) (in_order (y ∷ C)) e in
-    let o = order_is (y ∷ C) b in
-    let l : node x < node y = ltb-true (node x) (node y) a in
-    ((λ z i. ⊎_elim (λ q. subst (λ w. node x < node w) (sym q) l) (λ j. omega (arith, o.0 z j)) i), o)
+order_is (x ∷ y ∷ C) e = grind (arith, and_parts, C, order_is (y ∷ C), ltb-true)
 
 pub is_order : (C : List ℕ) → Ordered C → in_order C ≡ true
 is_order [] o = refl

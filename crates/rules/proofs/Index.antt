@@ -59,10 +59,7 @@ module _ (M : Meaning) (l i : ℕ) where
 
   pub removed_origin : (x : ℕ) (s : Ref) → In s ((removed l i M).uses x) → (r : Ref) × In r (M.uses x) × (is_at l i r ≡ false) × (s ≡ moved_ref l (length (M.own l) - 1) i r)
   unfolding removed
-  removed_origin x s h =
-      let (r, k, e) = map_in (moved_ref l (length (M.own l) - 1) i) s (filter (λ r. not (is_at l i r)) (M.uses x)) h in
-      let (o, t) = kept_in (λ r. not (is_at l i r)) r (M.uses x) k in
-      (r, o, not-true (is_at l i r) t, e)
+  removed_origin x s h = grind (arith, nat_tests, map_in (moved_ref l (length (M.own l) - 1) i) s, M.own l, s, M.uses x, kept_in, not-true)
 
   module _ (I : Indexed M) (li : i < length (M.own l)) where
     end : ℕ
@@ -76,9 +73,7 @@ module _ (M : Meaning) (l i : ℕ) where
     -- a ref that stays
     use_stays : (x a b k j : ℕ) → In (live a b) (M.uses x) → is_at l i (live a b) ≡ false → moved_ref l (length (M.own l) - 1) i (live a b) ≡ live k j → In (live k j) ((removed l i M).uses x)
     unfolding removed
-    use_stays x a b k j h f e =
-        subst (λ r. In r (map (moved_ref l (length (M.own l) - 1) i) (filter (λ r. not (is_at l i r)) (M.uses x)))) e
-        (in_map (moved_ref l (length (M.own l) - 1) i) (live a b) (filter (λ r. not (is_at l i r)) (M.uses x)) (in_kept (λ r. not (is_at l i r)) (live a b) (M.uses x) h (not_from_false (is_at l i (live a b)) f)))
+    use_stays x a b k j h f e = grind (arith, nat_tests, M.own l, M.uses x, in_map (moved_ref l (length (M.own l) - 1) i) (live a b), in_kept, not_from_false (is_at l i (live a b)) f, f)
 
     use_every : (x k j : ℕ) → j < length ((removed l i M).own k) → In x (front (get_or ((removed l i M).own k) j [])) → In (live k j) ((removed l i M).uses x)
     use_every x k j lj h = grind (arith, nat_tests, removed_own, removed_apart k, removed_length, swap_here [] i (M.own l), swap_other [] i j (M.own l), I.every x k j, I.every x l (length (M.own l) - 1), use_stays x k j k j, use_stays x l (length (M.own l) - 1) l i, cases_eq k l, cases_eq j i, at_not l i k j, at_not l i l (length (M.own l) - 1), moved_here l (length (M.own l) - 1) i l (length (M.own l) - 1), is_here l (length (M.own l) - 1), moved_not l (length (M.own l) - 1) i k j, at_not l (length (M.own l) - 1) k j)
@@ -95,8 +90,7 @@ module _ (M : Meaning) (l i : ℕ) where
 
         lost : (x : ℕ) → (r : Ref) × In r (M.uses x) × (is_at l i r ≡ false) × (dead ≡ moved_ref l (length (M.own l) - 1) i r) → ⊥
         lost x (dead, o, f, e) = I.no_dead x o
-        lost x (live a b, o, f, e) = ⊎_elim (λ t. live_dead l i (sym (e ∙ moved_here l (length (M.own l) - 1) i a b t))) (λ t. live_dead a b (sym (e ∙ moved_not l (length (M.own l) - 1) i a b t)))
-            (cases_Bool (is_at l (length (M.own l) - 1) (live a b)))
+        lost x (live a b, o, f, e) = grind (arith, nat_tests, live_dead l i, moved_here l (length (M.own l) - 1) i a b, M.own l, live_dead a b, moved_not l (length (M.own l) - 1) i a b, cases_Bool (is_at l (length (M.own l) - 1) (live a b)))
 
 -- a clause entered
 module _ (M : Meaning) (C : List ℕ) where
@@ -126,9 +120,7 @@ module _ (M : Meaning) (C : List ℕ) where
     use_old x r h = subst (In r) (sym (uses_is x)) (grind (arith, h, in_left r (M.uses x)))
 
     use_new : (x : ℕ) → In x (front C) → In (live (last C) (length (M.own (last C)))) ((entered C M).uses x)
-    use_new x h = subst (In (live (last C) (length (M.own (last C))))) (sym (uses_is x))
-        (subst (λ b. In (live (last C) (length (M.own (last C)))) (with_use b (M.uses x) (live (last C) (length (M.own (last C)))))) (sym (any_from (eqb x) (front C) x h (eq-eqb x x refl)))
-        (in_right (live (last C) (length (M.own (last C)))) (M.uses x) (live (last C) (length (M.own (last C))) ∷ []) (inl refl)))
+    use_new x h = grind (arith, nat_tests, C, M.own (last C), uses_is x, M.uses x, any_from (eqb x) (front C) x h, eq-eqb x x, in_right (live (last C) (length (M.own (last C)))) (M.uses x) (live (last C) (length (M.own (last C))) ∷ []))
 
     new_named : (x : ℕ) → In x (front C) → (length (M.own (last C)) < length ((entered C M).own (last C))) × In x (front (get_or ((entered C M).own (last C)) (length (M.own (last C))) []))
     new_named x h = grind (arith, entered_own, length-append (M.own (last C)) (C ∷ []), get_or_push (M.own (last C)) C [] (length (M.own (last C))) refl)
@@ -166,26 +158,13 @@ from_length (suc t) i = ap suc (from_length t (suc i))
 pub places_named : (x l : ℕ) (Cs : List (List ℕ)) (i k j : ℕ) → In (live k j) (places x l i Cs) → (k ≡ l) × (i ≤ j) × (j < i + length Cs) × In x (front (get_or Cs (j - i) []))
 unfolding places
 places_named x l [] i k j h = absurd h
-places_named x l (C ∷ Cs) i k j h = cond_both (has x (front C)) (live l i ∷ places x l (suc i) Cs) (places x l (suc i) Cs)
-    (λ rs. In (live k j) rs → (k ≡ l) × (i ≤ j) × (j < i + suc (length Cs)) × In x (front (get_or (C ∷ Cs) (j - i) [])))
-    (λ e r. ⊎_elim (λ q. here e q) (λ w. later (places_named x l Cs (suc i) k j w)) r) (λ e r. later (places_named x l Cs (suc i) k j r)) h
-  where
-    here : has x (front C) ≡ true → live k j ≡ live l i → (k ≡ l) × (i ≤ j) × (j < i + suc (length Cs)) × In x (front (get_or (C ∷ Cs) (j - i) []))
-    here e q = let ji = live_place k j l i q in let z : 0 ≡ j - i = omega (arith, ji) in
-        (live_lit k j l i q, omega (arith, ji), omega (arith, ji), subst (λ t. In x (front (get_or (C ∷ Cs) t []))) z (has_in x (front C) e))
-
-    later : (k ≡ l) × (suc i ≤ j) × (j < suc i + length Cs) × In x (front (get_or Cs (j - suc i) [])) → (k ≡ l) × (i ≤ j) × (j < i + suc (length Cs)) × In x (front (get_or (C ∷ Cs) (j - i) []))
-    later (a, b, c, d) = let q : suc (j - suc i) ≡ j - i = omega (arith, b) in
-        (a, omega (arith, b), omega (arith, c), subst (λ t. In x (front (get_or (C ∷ Cs) t []))) q d)
+places_named x l (C ∷ Cs) i k j h = grind (arith, nat_tests, C, places_named x l Cs (suc i) k j, live_place k j l i, live_lit k j l i, has_in x (front C))
 
 places_every : (x l : ℕ) (Cs : List (List ℕ)) (i j : ℕ) → j < length Cs → In x (front (get_or Cs j [])) → In (live l (i + j)) (places x l i Cs)
 unfolding places
 places_every x l [] i j lj h = absurd (omega arith)
-places_every x l (C ∷ Cs) i zero lj h = subst (λ b. In (live l (i + 0)) (with_first b (live l i) (places x l (suc i) Cs))) (sym (any_from (eqb x) (front C) x h (eq-eqb x x refl)))
-    (inl (ap (live l) (omega arith)))
-places_every x l (C ∷ Cs) i (suc j) lj h =
-    let r : In (live l (i + suc j)) (places x l (suc i) Cs) = subst (λ t. In (live l t) (places x l (suc i) Cs)) (omega arith) (places_every x l Cs (suc i) j (omega arith) h) in
-    cond_both (has x (front C)) (live l i ∷ places x l (suc i) Cs) (places x l (suc i) Cs) (In (live l (i + suc j))) (λ e. inr r) (λ e. r)
+places_every x l (C ∷ Cs) i zero lj h = grind (arith, nat_tests, any_from (eqb x) (front C) x h, C, eq-eqb x x)
+places_every x l (C ∷ Cs) i (suc j) lj h = grind (arith, nat_tests, places_every x l Cs (suc i) j, C)
 
 pub places_live : (x l : ℕ) (Cs : List (List ℕ)) (i : ℕ) → In dead (places x l i Cs) → ⊥
 unfolding places

@@ -72,8 +72,7 @@ removed_kept M l i = omega (arith, fewer_at M (removed l i M) l (removed_apart M
 
 pub retire_fewer : (l i : ℕ) (M : Meaning) → live_clauses (retire l i M).0 ≤ live_clauses M
 unfolding retire
-retire_fewer l i M = allowed_along (λ M N. live_clauses N ≤ live_clauses M) (fewer_chains live_clauses) (present M l i) M (retired l i M)
-    (λ e. fewer_at M (retired l i M) l (retired_apart M l i) (omega (arith, ap length (retired_own M l i), length-remove (M.own l) i (ltb-true i (length (M.own l)) e))))
+retire_fewer l i M = grind (arith, allowed_along, fewer_chains live_clauses, fewer_at, retired_apart, retired_own, length-remove, ltb-true i)
 
 pub shorten_fewer : (l i x : ℕ) (M : Meaning) → live_clauses (shorten l i x M).0 ≤ live_clauses M
 unfolding shorten

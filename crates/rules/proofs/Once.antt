@@ -28,8 +28,7 @@ removed_once M l i o x k j = subst (λ n. n ≤ 1) (sym (count_map (is_at k j) (
     ys = filter (λ r. not (is_at l i r)) (M.uses x)
 
     moved_cases : (r : Ref) → is_at k j (moved_ref l (length (M.own l) - 1) i r) ≡ true → ((is_at l (length (M.own l) - 1) r ≡ true) × (is_at l i (live k j) ≡ true)) ⊎ (is_at k j r ≡ true)
-    moved_cases r e = cond_both (is_at l (length (M.own l) - 1) r) (live l i) r (λ s. is_at k j s ≡ true → ((is_at l (length (M.own l) - 1) r ≡ true) × (is_at l i (live k j) ≡ true)) ⊎ (is_at k j r ≡ true))
-        (λ t q. inl (t, let (a, b) = at_is k j l i q in subst (λ g. is_at l i (live g j) ≡ true) a (subst (λ g. is_at l i (live l g) ≡ true) b (is_here l i)))) (λ t q. inr q) e
+    moved_cases r e = grind (arith, M.own l, r, at_is k j l i, is_here l i)
 
     here : is_at l i (live k j) ≡ true → how_many (λ r. is_at k j (moved_ref l (length (M.own l) - 1) i r)) ys ≤ 1
     here t =
@@ -48,24 +47,12 @@ removed_once M l i o x k j = subst (λ n. n ≤ 1) (sym (count_map (is_at k j) (
 pub places_low : (x l : ℕ) (Cs : List (List ℕ)) (i k j : ℕ) → ((k ≡ l → ⊥) ⊎ (j < i)) → how_many (is_at k j) (places x l i Cs) ≡ 0
 unfolding places how_many
 places_low x l [] i k j h = refl
-places_low x l (C ∷ Cs) i k j h =
-    let r = places_low x l Cs (suc i) k j (⊎_elim inl (λ q. inr (omega arith)) h) in
-    cond_both (has x (front C)) (live l i ∷ places x l (suc i) Cs) (places x l (suc i) Cs) (λ rs. how_many (is_at k j) rs ≡ 0)
-    (λ e. cond_both (is_at k j (live l i)) (suc (how_many (is_at k j) (places x l (suc i) Cs))) (how_many (is_at k j) (places x l (suc i) Cs)) (λ m. m ≡ 0)
-    (λ t. absurd (apart (at_is k j l i t) h)) (λ t. r)) (λ e. r)
-  where
-    apart : (l ≡ k) × (i ≡ j) → (k ≡ l → ⊥) ⊎ (j < i) → ⊥
-    apart (p, q) (inl a) = a (sym p)
-    apart (p, q) (inr a) = omega (arith, q, a)
+places_low x l (C ∷ Cs) i k j h = grind (arith, places_low x l Cs (suc i) k j, C, at_is k j l i)
 
 pub places_once : (x l : ℕ) (Cs : List (List ℕ)) (i k j : ℕ) → how_many (is_at k j) (places x l i Cs) ≤ 1
 unfolding places how_many
 places_once x l [] i k j = omega arith
-places_once x l (C ∷ Cs) i k j =
-    let r = places_once x l Cs (suc i) k j in
-    cond_both (has x (front C)) (live l i ∷ places x l (suc i) Cs) (places x l (suc i) Cs) (λ rs. how_many (is_at k j) rs ≤ 1)
-    (λ e. cond_both (is_at k j (live l i)) (suc (how_many (is_at k j) (places x l (suc i) Cs))) (how_many (is_at k j) (places x l (suc i) Cs)) (λ m. m ≤ 1)
-    (λ t. let (p, q) = at_is k j l i t in omega (arith, places_low x l Cs (suc i) k j (inr (omega (arith, q))))) (λ t. r)) (λ e. r)
+places_once x l (C ∷ Cs) i k j = grind (arith, places_once x l Cs (suc i) k j, C, at_is k j l i, places_low x l Cs (suc i) k j)
 
 module _ (M : Meaning) (x : ℕ) where
   every : ℕ → List Ref
