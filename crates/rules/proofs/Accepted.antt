@@ -79,10 +79,7 @@ module _ (C : List ℕ) (W : Work) where
     where
       go : (o : Option (List ℕ)) → simplified W.values C ≡ o → add_simplified o W ≡ plain.add_simplified o W
       go None e = refl
-      go (Some S) e =
-          let A = a S e in
-          ap (λ r. valuing (storing W r.0) (known_if r.1 S W.values))
-          (enter_yes S W.store (and_from (well_formed S) (ltb (kept_clauses W.store) W.store.room) A.formed (lt-ltb (kept_clauses W.store) W.store.room A.room)))
+      go (Some S) e = grind (arith, W.values, enter_yes S W.store, W.store, and_from (well_formed S) (ltb (kept_clauses W.store) W.store.room), lt-ltb (kept_clauses W.store) W.store.room)
 
 -- ## Entries one after another
 
@@ -143,9 +140,7 @@ shrinks_short V C S e = go (simplified V C) (no_longer V C) e
 
     go : (o : Option (List ℕ)) → NoLonger C o → fate_of C o ≡ shrinks S → length S ≤ length C
     go None n q = absurd (not_goes q)
-    go (Some T) (n, f) q = cond_both (eqb (last T) (last C)) (cond (ltb (length T) (length C)) (shrinks T) stays) goes (λ x. x ≡ shrinks S → length S ≤ length C)
-        (λ t. cond_both (ltb (length T) (length C)) (shrinks T) stays (λ x. x ≡ shrinks S → length S ≤ length C) (λ u w. omega (arith, ap length (is T w), n)) (λ u w. absurd (not_stays w)))
-        (λ t w. absurd (not_goes w)) q
+    go (Some T) (n, f) q = grind (arith, C, stays, not_stays, not_goes, q)
 
 pub judged_short : (Cs : List (List ℕ)) (W : Work) → ((C : List ℕ) → In C Cs → length C ≤ 32) → AllShort W.store → AllShort (plain.judged Cs W).1.store
 judged_short [] W s h = unfold plain.judged in h

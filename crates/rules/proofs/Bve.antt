@@ -65,10 +65,7 @@ module _ (M : Meaning) (v : ℕ) where
 
   one_in : (p : ℕ) (R : List ℕ) (Rs : List Ref) → In R (resolvents M p (M.own p) Rs) → (C : List ℕ) × (r : Ref) × In C (M.own p) × In r Rs × (resolve p C (referred_clause M r) ≡ Some R)
   unfolding resolvents
-  one_in p R Rs h =
-      let (C, i, a) = flat_map_in (λ C. flat_map (λ R. option_to_list (resolve p C (referred_clause M R))) Rs) (M.own p) R h in
-      let (r, j, b) = flat_map_in (λ R. option_to_list (resolve p C (referred_clause M R))) Rs R a in
-      (C, r, i, j, option_in (resolve p C (referred_clause M r)) R b)
+  one_in p R Rs h = grind (arith, nat_tests, flat_map_in, p, M, Rs, M.own p, option_in)
 
   upon : (R : List ℕ) → In R (all_resolvents M v) → Upon M v R
   unfolding all_resolvents

@@ -118,11 +118,7 @@ turn_then m W N R p q = record {
 
 -- where the node has no value at the end, nothing has changed
 turn_path : (m : ℕ) (W N : Work) → Turn m W N → N.values m ≡ None → N.values ≡ W.values
-turn_path m W N t u = fun_ext (λ k. ⊎_elim (λ e. subst (λ g. N.values g ≡ W.values g) (sym e) (u ∙ sym (before (known (W.values m))))) (t.values k) (cases_eq k m))
-  where
-    before : (W.values m ≡ None) ⊎ ((b : Bool) × (W.values m ≡ Some b)) → W.values m ≡ None
-    before (inl e) = e
-    before (inr (b, e)) = absurd (none_some b (sym u ∙ t.grow m b e))
+turn_path m W N t u = grind (arith, N.values, known (W.values m), W.values m, m, t.values, cases_eq, none_some, t.grow m)
 
 module _ (first : Network) (n : ℕ) (gone frozen : Assignment) where
   pub record Consting (W : Work) : Type 0 where
