@@ -69,9 +69,7 @@ without_in x l C i = let k = kept_in (λ k. not (eqb k x)) l C i in (k.0, λ e. 
 pub ordered : (R : List ℕ) → Rising R → twice R ≡ false → Ordered R
 ordered [] r t = tt
 ordered (x ∷ []) r t = ((λ y i. absurd i), tt)
-ordered (x ∷ y ∷ R) (l, (m, r)) t =
-    let h = or_parts (eqb (node x) (node y)) (twice (y ∷ R)) t in
-    ((λ z i. grind (arith, nat_tests, h.0, l y (inl refl), m z)), ordered (y ∷ R) (m, r) h.1)
+ordered (x ∷ y ∷ R) (l, (m, r)) t = grind (arith, nat_tests, or_parts (eqb (node x) (node y)) (twice (y ∷ R)) t, m, ordered (y ∷ R) (m, r), r)
 
 pub clash_of : (R : List ℕ) → Rising R → twice R ≡ true → (l : ℕ) × In l R × In (opposite l) R
 clash_of [] r t = absurd (both_ways false refl t)
@@ -121,8 +119,7 @@ ordered_untwice (x ∷ y ∷ R) (h, o) = or_from (eqb (node x) (node y)) (twice 
 
 -- there is one resolvent, and none where there is a tautology
 resolvent_once : (x : ℕ) (C D R S : List ℕ) → Resolvent x C D R → Resolvent x C D S → R ≡ S
-resolvent_once x C D R S p q =
-    rising_same R S (ordered_rising R p.rising) (ordered_rising S q.rising) (λ l i. q.all l (p.only l i)) (λ l i. p.all l (q.only l i))
+resolvent_once x C D R S p q = grind (arith, nat_tests, rising_same R S (ordered_rising R p.rising) (ordered_rising S q.rising), ordered_rising R p.rising, p.rising, ordered_rising S q.rising, q.rising, q.all, p.only, p.all, q.only)
 
 resolvent_tautology : (x : ℕ) (C D R : List ℕ) → Resolvent x C D R → Tautology x C D → ⊥
 resolvent_tautology x C D R p t =

@@ -17,8 +17,7 @@ pub noted_keeps : (n k x : ℕ) (xs : List ℕ) → In x xs → In x (noted n xs
 noted_keeps n k x xs i = cond_both (eqb k 0 || (eqb k n || has k xs)) xs (xs ++ (k ∷ [])) (λ (z : List ℕ). In x z) (λ _. i) (λ _. in_left x xs (k ∷ []) i)
 
 pub noted_gets : (n k : ℕ) (xs : List ℕ) → Known n (noted n xs k) k
-noted_gets n k xs =
-    cond_both (eqb k 0 || (eqb k n || has k xs)) xs (xs ++ (k ∷ [])) (λ (z : List ℕ). Known n z k) (λ e. grind (arith, nat_tests, has_in k xs)) (λ _. inr (inr (in_right k xs (k ∷ []) (inl refl))))
+noted_gets n k xs = grind (arith, nat_tests, has_in k xs, in_right k xs (k ∷ []))
 
 known_kept : (n m k : ℕ) (xs : List ℕ) → Known n xs k → Known n (noted n xs m) k
 known_kept n m k xs h = ⊎_elim inl (λ r. inr (⊎_elim inl (λ i. inr (noted_keeps n m k xs i)) r)) h
@@ -44,10 +43,7 @@ bit_small false = omega arith
 
 pub code_small : (xs : List ℕ) (σ : Assignment) → code xs σ < 2 ^ length xs
 code_small [] σ = omega arith
-code_small (x ∷ xs) σ = omega (arith, bit_small (σ x), code_small xs σ, pow_more (length xs))
-  where
-    pow_more : (n : ℕ) → 2 ^ suc n ≡ 2 * 2 ^ n
-    pow_more n = omega arith
+code_small (x ∷ xs) σ = grind (arith, nat_tests, bit_small (σ x), code_small xs σ)
 
 bit_of : (b : Bool) (c : ℕ) → eqb ((cond b 1 0 + 2 * c) % 2) 1 ≡ b
 bit_of true c = eq-eqb _ _ (omega arith)
@@ -58,32 +54,20 @@ rest_of true c = omega arith
 rest_of false c = omega arith
 
 pub row_step : (x : ℕ) (xs : List ℕ) (σ : Assignment) (k : ℕ) → row (x ∷ xs) (code (x ∷ xs) σ) k ≡ cond (eqb k x) (σ x) (row xs (code xs σ) k)
-row_step x xs σ k =
-    ap (λ (b : Bool). cond (eqb k x) b (row xs (code (x ∷ xs) σ / 2) k)) (bit_of (σ x) (code xs σ)) ∙ ap (λ (r : ℕ). cond (eqb k x) (σ x) (row xs r k)) (rest_of (σ x) (code xs σ))
+row_step x xs σ k = grind (arith, nat_tests, bit_of (σ x) (code xs σ), rest_of (σ x) (code xs σ))
 
 pub row_code : (xs : List ℕ) (σ : Assignment) (k : ℕ) → In k xs → row xs (code xs σ) k ≡ σ k
 row_code [] σ k i = absurd i
-row_code (x ∷ xs) σ k i =
-    row_step x xs σ k ∙ cond_both (eqb k x) (σ x) (row xs (code xs σ) k) (λ (b : Bool). b ≡ σ k) (λ e. ap σ (sym (eqb-true k x e))) (λ e. row_code xs σ k (later k x xs i (eqb-false k x e)))
-  where
-    later : (k x : ℕ) (xs : List ℕ) → In k (x ∷ xs) → (k ≡ x → ⊥) → In k xs
-    later k x xs (inl e) n = absurd (n e)
-    later k x xs (inr i) n = i
+row_code (x ∷ xs) σ k i = grind (arith, nat_tests, row_step x xs σ k, eqb-true k x, row_code xs σ k, eqb-false k x)
 
 pub row_false : (xs : List ℕ) (σ : Assignment) (k : ℕ) → σ k ≡ false → row xs (code xs σ) k ≡ false
 row_false [] σ k f = refl
-row_false (x ∷ xs) σ k f =
-    row_step x xs σ k ∙ cond_both (eqb k x) (σ x) (row xs (code xs σ) k) (λ (b : Bool). b ≡ false) (λ e. ap σ (sym (eqb-true k x e)) ∙ f) (λ e. row_false xs σ k f)
+row_false (x ∷ xs) σ k f = grind (arith, nat_tests, row_step x xs σ k, eqb-true k x, f, row_false xs σ k f)
 
 -- the row says what σ says, of each node that is accounted for
 pub row_like : (n : ℕ) (xs : List ℕ) (σ : Assignment) (b : Bool) (k : ℕ) → σ 0 ≡ false → Known n xs k → put (row xs (code xs σ)) n b k ≡ put σ n b k
 unfolding put
-row_like n xs σ b k z h = cond_both (eqb k n) b (row xs (code xs σ) k) (λ (x : Bool). x ≡ cond (eqb k n) b (σ k)) (λ e. sym (cond-true _ _ _ e)) (λ e. same h (eqb-false k n e) ∙ sym (cond-false _ _ _ e))
-  where
-    same : Known n xs k → (k ≡ n → ⊥) → row xs (code xs σ) k ≡ σ k
-    same (inl e) o = row_false xs σ k (ap σ e ∙ z) ∙ sym (ap σ e ∙ z)
-    same (inr (inl e)) o = absurd (o e)
-    same (inr (inr i)) o = row_code xs σ k i
+row_like n xs σ b k z h = grind (arith, nat_tests, cond-true, eqb-false k n, cond-false, row_false xs σ k, row_code xs σ k)
 
 pub sat_agree : (σ τ : Assignment) (Cs : List (List ℕ)) → ((C : List ℕ) → In C Cs → AgreeOn C σ τ) → sat σ Cs ≡ sat τ Cs
 sat_agree σ τ Cs h = all_same (holds σ) (holds τ) Cs (λ C i. holds_agree σ τ C (h C i))
@@ -145,19 +129,10 @@ Distinct (x ∷ xs) = (In x xs → ⊥) × Distinct xs
 
 distinct_push : (xs : List ℕ) (k : ℕ) → Distinct xs → (In k xs → ⊥) → Distinct (xs ++ (k ∷ []))
 distinct_push [] k d n = ((λ i. i), tt)
-distinct_push (x ∷ xs) k (a, d) n =
-    ((λ i. ⊎_elim a (λ j. single j) (in_cases x xs (k ∷ []) i)), distinct_push xs k d (λ i. n (inr i)))
-  where
-    single : In x (k ∷ []) → ⊥
-    single (inl e) = n (inl (sym e))
-    single (inr q) = q
+distinct_push (x ∷ xs) k (a, d) n = grind (arith, nat_tests, in_cases x xs (k ∷ []), distinct_push xs k d, d)
 
 noted_distinct : (n k : ℕ) (xs : List ℕ) → Distinct xs → Distinct (noted n xs k)
-noted_distinct n k xs d =
-    cond_both (eqb k 0 || (eqb k n || has k xs)) xs (xs ++ (k ∷ [])) Distinct (λ _. d) (λ e. distinct_push xs k d (λ i. out (any_from (eqb k) xs k i (eq-eqb k k refl)) e))
-  where
-    out : has k xs ≡ true → (eqb k 0 || (eqb k n || has k xs)) ≡ false → ⊥
-    out t e = grind (arith, t, e)
+noted_distinct n k xs d = grind (arith, nat_tests, d, distinct_push xs k d, any_from (eqb k) xs k, eq-eqb k k)
 
 noted_in_distinct : (n : ℕ) (C xs : List ℕ) → Distinct xs → Distinct (noted_in n xs C)
 noted_in_distinct n C xs d = fold_keeps Distinct (λ ys l. noted n ys (node l)) C (λ l i ys. noted_distinct n (node l) ys) xs d
@@ -178,9 +153,7 @@ taken_out y (x ∷ ys) (inr i) = let (zs, l, h) = taken_out y ys i in (x ∷ zs,
 
 pub pigeons : (xs ys : List ℕ) → Distinct xs → ((x : ℕ) → In x xs → In x ys) → length xs ≤ length ys
 pigeons [] ys d h = omega arith
-pigeons (x ∷ xs) ys (a, d) h =
-    let (zs, l, k) = taken_out x ys (h x (inl refl)) in
-    omega (arith, l, pigeons xs zs d (λ z i. k z (h z (inr i)) (λ e. a (subst (λ (w : ℕ). In w xs) e i))))
+pigeons (x ∷ xs) ys (a, d) h = grind (arith, nat_tests, taken_out x ys, ys, pigeons xs, d)
 
 pub lower_distinct : (n : ℕ) (Cs : List (List ℕ)) → Distinct (lower n Cs)
 lower_distinct n Cs = fold_keeps Distinct (noted_in n) Cs (λ C i ys. noted_in_distinct n C ys) [] tt
@@ -188,8 +161,7 @@ lower_distinct n Cs = fold_keeps Distinct (noted_in n) Cs (λ C i ys. noted_in_d
 -- a node that is not among xs is false in every row
 pub row_out : (xs : List ℕ) (r k : ℕ) → (In k xs → ⊥) → row xs r k ≡ false
 row_out [] r k n = refl
-row_out (x ∷ xs) r k n =
-    cond_both (eqb k x) (eqb (r % 2) 1) (row xs (r / 2) k) (λ (b : Bool). b ≡ false) (λ e. absurd (n (inl (eqb-true k x e)))) (λ e. row_out xs (r / 2) k (λ i. n (inr i)))
+row_out (x ∷ xs) r k n = grind (arith, nat_tests, r, eqb-true k x, row_out xs (r / 2) k)
 
 pub lower_zero : (n : ℕ) (Cs : List (List ℕ)) → In 0 (lower n Cs) → ⊥
 lower_zero n Cs i = lower_only (λ (x : ℕ). x ≡ 0 → ⊥) n Cs (λ C j l m a b. a) 0 i refl

@@ -73,10 +73,7 @@ ones_pow k = ap ones (omega arith) ∙ ones_cat k 1 0 (pow_pos k)
 
 -- so that at most one bit is missing
 at_most_one : (k a b : ℕ) → ((j : ℕ) → (j ≡ k → ⊥) → bit a j ≤ bit b j) → ones (a - bit_and a b) ≤ 1
-at_most_one k a b h = ⊎_elim (λ e. le 0 (omega arith) (omega (arith, ones_zero))) (λ e. le (2 ^ k) (omega arith) (omega (arith, ones_pow k))) (but_one_bit k a b h)
-  where
-    le : (m : ℕ) → a - bit_and a b ≡ m → ones m ≤ 1 → ones (a - bit_and a b) ≤ 1
-    le m e q = subst (λ n. ones n ≤ 1) (sym e) q
+at_most_one k a b h = grind (arith, nat_tests, ones_zero, ones_pow k, but_one_bit k a b h)
 
 none_missing : (a b : ℕ) → ((j : ℕ) → bit a j ≤ bit b j) → ones (a - bit_and a b) ≡ 0
 none_missing a b h = ap ones {y = 0} (let e = and_from_bits a b h in omega arith) ∙ ones_zero
@@ -144,18 +141,10 @@ abbrev in_high : ℕ → ℕ → Bool
 in_high j l = not (ltb (place l) 64) && eqb (place l - 64) j
 
 bit_low : (n l j : ℕ) → bit (low n l) j ≡ max (bit n j) (cond (in_low j l) 1 0)
-bit_low n l j = pick (ltb (place l) 64)
-  where
-    pick : (t : Bool) → bit (cond t (bit_or n (2 ^ place l)) n) j ≡ max (bit n j) (cond (t && eqb (place l) j) 1 0)
-    pick true = bit_of_or n (2 ^ place l) j ∙ ap (max (bit n j)) (bit_pow (place l) j)
-    pick false = omega arith
+bit_low n l j = grind (arith, nat_tests, place l, bit_of_or n (2 ^ place l) j, bit_pow (place l) j)
 
 bit_high : (n l j : ℕ) → bit (high n l) j ≡ max (bit n j) (cond (in_high j l) 1 0)
-bit_high n l j = pick (ltb (place l) 64)
-  where
-    pick : (t : Bool) → bit (cond t n (bit_or n (2 ^ (place l - 64)))) j ≡ max (bit n j) (cond (not t && eqb (place l - 64) j) 1 0)
-    pick true = omega arith
-    pick false = bit_of_or n (2 ^ (place l - 64)) j ∙ ap (max (bit n j)) (bit_pow (place l - 64) j)
+bit_high n l j = grind (arith, nat_tests, place l, bit_of_or n (2 ^ (place l - 64)) j, bit_pow (place l - 64) j)
 
 -- each bit of a half is that of a literal
 low_some : (C : List ℕ) (j : ℕ) → (bit (signature C).0 j ≡ 0) ⊎ ((l : ℕ) × In l C × (place l < 64) × (place l ≡ j) × (bit (signature C).0 j ≡ 1))
@@ -205,15 +194,8 @@ module _ (C D : List ℕ) (s : ℕ × ℕ) (c : Covers s D) where
 
   -- where C is part of D, no bit is missing
   pub part_within : Subsumes C D → within (signature C) s ≡ true
-  part_within h =
-      and_from (eqb (bit_and (signature C).0 s.0) (signature C).0) (eqb (bit_and (signature C).1 s.1) (signature C).1)
-      (eq-eqb _ _ (and_from_bits (signature C).0 s.0 (λ j. low_below j (λ l i p e. h l i))))
-      (eq-eqb _ _ (and_from_bits (signature C).1 s.1 (λ j. high_below j (λ l i e. h l i))))
+  part_within h = grind (arith, nat_tests, and_from (eqb (bit_and (signature C).0 s.0) (signature C).0) (eqb (bit_and (signature C).1 s.1) (signature C).1), C, eq-eqb, and_from_bits (signature C).0 s.0, low_below, and_from_bits (signature C).1 s.1, high_below)
 
   -- where each literal but those of one bit stands in D, at most one bit is missing
   pub but_one_missing : (k : ℕ) → ((l : ℕ) → In l C → (place l ≡ k → ⊥) → In l D) → missing (signature C) s ≤ 1
-  but_one_missing k h =
-      ⊎_elim
-      (λ p. omega (arith, at_most_one k (signature C).0 s.0 (λ j n. low_below j (λ l i p e. h l i (λ q. n (omega arith)))), none_missing (signature C).1 s.1 (λ j. high_below j (λ l i e. h l i (λ q. omega arith)))))
-      (λ p. omega (arith, none_missing (signature C).0 s.0 (λ j. low_below j (λ l i r e. h l i (λ q. omega arith))), at_most_one (k - 64) (signature C).1 s.1 (λ j n. high_below j (λ l i e. h l i (λ q. n (omega arith))))))
-      (cases_lt k 64)
+  but_one_missing k h = grind (arith, nat_tests, at_most_one k (signature C).0 s.0, C, low_below, none_missing (signature C).1 s.1, high_below, none_missing (signature C).0 s.0, at_most_one (k - 64) (signature C).1 s.1, cases_lt k 64)

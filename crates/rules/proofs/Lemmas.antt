@@ -148,6 +148,4 @@ from_is (suc f) (C ∷ Cs) o =
 
 pub lemmas_is : (Cs : List (List ℕ)) → OrderedAll Cs → SaysSame Cs (lemmas Cs)
 unfolding lemmas
-lemmas_is Cs o =
-    let s = simp_same Cs (by_length Cs) o (in_sorted Cs) (sorted_in Cs) in
-    simp_trans Cs (by_length Cs) (lemmas_from (length Cs) (by_length Cs)) s (from_is (length Cs) (by_length Cs) s.ordered)
+lemmas_is Cs o = grind (arith, simp_same Cs (by_length Cs) o (in_sorted Cs) (sorted_in Cs), in_sorted Cs, sorted_in Cs, simp_trans Cs (by_length Cs) (lemmas_from (length Cs) (by_length Cs)), from_is (length Cs) (by_length Cs))

@@ -51,15 +51,7 @@ module _ (W : Work) (n : ℕ) where
 
   handed_own : (C : List ℕ) → ((W.frozen n ≡ false) ⊎ (W.values n ≡ None)) → In C (held W.store n) → In C (handed_out W n)
   unfolding handed_out held
-  handed_own C h i = go (W.frozen n) (W.values n) refl refl
-    where
-      false_true : W.frozen n ≡ true → (b : Bool) → W.values n ≡ Some b → ⊥
-      false_true p b q = ⊎_elim (λ f. both_ways (W.frozen n) f p) (λ u. let z : ◌≡◌ {A = Option Bool} None (Some b) = sym u ∙ q in absurd (grind (arith, z))) h
-
-      go : (f : Bool) (o : Option Bool) → W.frozen n ≡ f → W.values n ≡ o → In C (only_unit n f o (own_of W (2 * n) ++ own_of W (2 * n + 1)))
-      go f None p q = i
-      go true (Some b) p q = absurd (false_true p b q)
-      go false (Some b) p q = i
+  handed_own C h i = grind (arith, W.frozen n, W.values n, both_ways (W.frozen n), C)
 
   handed_unit : (b : Bool) → W.frozen n ≡ true → W.values n ≡ Some b → In (unit_of n b) (handed_out W n)
   unfolding handed_out

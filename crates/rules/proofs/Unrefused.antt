@@ -152,11 +152,7 @@ module _ (first : Network) (n : ℕ) (gone frozen : Assignment) (small : n ≤ 1
 -- valued nodes lose clauses
 drop_kept : (n : ℕ) (W : Work) → kept_clauses (const_drop n W).store ≤ kept_clauses W.store
 unfolding const_drop
-drop_kept n W = go (W.values n)
-  where
-    go : (o : Option Bool) → kept_clauses (if_known o (storing W (clear_all (2 * n + 1) (clear_all (2 * n) W.store))) W).store ≤ kept_clauses W.store
-    go None = omega arith
-    go (Some b) = both_along (λ M N. kept_clauses N ≤ kept_clauses M) (fewer_chains kept_clauses) (λ l i M h. removed_kept M l i) n W.store
+drop_kept n W = grind (arith, W.values n, W.store, both_along, fewer_chains kept_clauses, removed_kept)
 
 drops_kept : (ns : List ℕ) (W : Work) → kept_clauses (each const_drop ns W).store ≤ kept_clauses W.store
 drops_kept = each_along (λ W N. kept_clauses N.store ≤ kept_clauses W.store) (fewer_chains (λ W. kept_clauses W.store)) const_drop drop_kept
@@ -321,9 +317,7 @@ module _ (first : Network) where
 
     pub bve_shrinks : live_clauses (bve_simplify W).store ≤ live_clauses W.store
     unfolding bve_simplify
-    bve_shrinks = cond_both W.store.indexed W _ (λ N. live_clauses N.store ≤ live_clauses W.store) (λ e. omega arith)
-        (λ e. subst (λ n. live_clauses (attempts (suc W.top) (up_to (suc W.top)) (storing W (index_on W.store))).store ≤ n) (index_live W.store)
-        (attempts_shrink W.store.room (suc W.top) (up_to (suc W.top)) (storing W (index_on W.store)) (index_met e)))
+    bve_shrinks = grind (arith, W.store, W.top, index_live W.store, attempts_shrink W.store.room (suc W.top) (up_to (suc W.top)) (storing W (index_on W.store)), index_met)
 
     pub bve_met : (T : Turn) → In T (bve_turns W) → Met W.store.room T.before
     bve_met T = cond_both W.store.indexed [] (attempt_turns (suc W.top) (up_to (suc W.top)) (storing W (index_on W.store))) (λ Ts. In T Ts → Met W.store.room T.before)
