@@ -1,12 +1,12 @@
 -- Entries into a store that ends well formed and within its room are all accepted. Assumes nothing.
-use Rattle.std.proofs.Common.{◌≡◌, ℕ, suc, ◌+◌, ◌<◌, ◌≤◌, Bool, true, false, cond, eqb, ltb, List, [], ◌∷◌, length, Some, None, Option, sym, refl, ap, ◌∙◌, subst, inl, inr, ⊎_elim, arith}
-use Rattle.std.proofs.lemmas.Bool.{cases_eq, cond_both, and_from, lt-ltb}
+use Rattle.std.proofs.Common.{◌≡◌, ℕ, suc, ◌+◌, ◌<◌, ◌≤◌, Bool, true, false, ltb, List, [], ◌∷◌, length, Some, None, Option, sym, refl, ap, ◌∙◌, subst, inl, inr, ⊎_elim, arith}
+use Rattle.std.proofs.lemmas.Bool.{cases_eq, and_from, lt-ltb}
 use Rattle.network.specs.Clauses.{last, well_formed}
 use Rattle.network.specs.Lists.{In}
 use Rattle.network.specs.Values.{Values, simplified}
-use Rattle.network.proofs.Lists.{in_left, in_right, in_cases}
+use Rattle.network.proofs.Lists.{in_left, in_right}
 use Rattle.rules.specs.Store.{Meaning, live_clauses, kept_clauses, entered}
-use Rattle.rules.specs.Work.{Work, storing, valuing, each, known_if, add_simplified, add}
+use Rattle.rules.specs.Work.{Work, each, add_simplified, add}
 use Rattle.rules.specs.Const.{Fate, goes, shrinks, stays, fate_of, fate, marking, judged_by, judged}
 use Rattle.rules.specs.Turns.{entries, judged_entries_by, judged_entries, Accepted, AllAccepted}
 use Rattle.rules.proofs.Plain as plain

@@ -18,7 +18,7 @@ use Rattle.rules.proofs.Kept.{with_apart}
 use Rattle.rules.proofs.Simplified.{says_at, simplified_some, simplified_none, unit_true}
 use Rattle.rules.proofs.Enter.{Plus, Occurs, Implied, enter_kept}
 use Rattle.rules.proofs.Verdicts.{owner_last}
-use Rattle.rules.proofs.Places.{held_in, held_new, held_old, placed_changed}
+use Rattle.rules.proofs.Places.{held_in, held_new, held_old}
 use Rattle.rules.proofs.Index.{entered_own, entered_apart, entered_cases, entered_indexed}
 use Rattle.rules.proofs.Facts.{none_some}
 

@@ -1,6 +1,5 @@
 -- const_simplify keeps what is kept. Assumes nothing.
 use Rattle.std.proofs.Common.{◌≡◌, ℕ, zero, suc, ◌+◌, ◌*◌, ◌<◌, ◌≤◌, Bool, true, false, cond, not, eqb, ltb, ◌⊎◌, List, [], ◌∷◌, ◌++◌, map, length, get_or, Some, None, Option, sym, refl, ap, ◌∙◌, subst, inl, inr, ⊎_elim, append_assoc, arith}
-use mathlib.Core.Path.{fun_ext}
 use Rattle.std.proofs.lemmas.Bool.{cases_eq, cases_lt, cases_Bool, cond_both, both_ways, eqb-true, eqb-false, ltb-false}
 use Rattle.network.specs.Assignments.{Assignment, node, lit, holds}
 use Rattle.network.specs.Lists.{In}
@@ -8,7 +7,7 @@ use Rattle.network.specs.Levels.{Below}
 use Rattle.network.specs.Networks.{Network, level}
 use Rattle.network.specs.Clauses.{Ordered, Subsumes, owner, has, last}
 use Rattle.network.proofs.Literals.{lit_agree}
-use Rattle.network.proofs.Lists.{in_left, in_cases, any_some, any_from}
+use Rattle.network.proofs.Lists.{in_left, any_some, any_from}
 use Rattle.network.proofs.Networks.{clause_at}
 use Rattle.network.specs.Values.{Values, nothing, with_value, sign, flipped, unit_of, literal, kept_literal, simplified}
 use Rattle.rules.specs.Kept.{Kept}
@@ -23,7 +22,7 @@ use Rattle.rules.proofs.Simplified.{Short, says_at, simplified_some, simplified_
 use Rattle.rules.proofs.Enter.{Plus}
 use Rattle.rules.proofs.Drops.{not_nil, PartAt, swap_kept}
 use Rattle.rules.proofs.Verdicts.{owner_last, last_in}
-use Rattle.rules.proofs.Places.{in_at, at_in, held_in, in_held, held_old, placed_changed}
+use Rattle.rules.proofs.Places.{in_at, at_in, held_in, in_held, held_old}
 use Rattle.rules.proofs.Index.{entered_own, entered_apart}
 use Rattle.rules.proofs.Clear.{Left, Cleared, clear_is, clear_all_is, clear_all_empty}
 use Rattle.rules.proofs.Adds.{entered_plus, entered_placed}

@@ -1,13 +1,13 @@
 -- Changes of a store keep its index. Assumes nothing.
-use Rattle.std.proofs.Common.{◌≡◌, ℕ, zero, suc, ◌+◌, ◌-◌, ◌<◌, ◌≤◌, true, false, cond, not, ◌&&◌, eqb, ◌⊎◌, List, [], ◌∷◌, ◌++◌, map, length, get_or, set, filter, sym, refl, ap, ◌∙◌, subst, inl, inr, ⊎_elim, arith, flat_map}
+use Rattle.std.proofs.Common.{◌≡◌, ℕ, zero, suc, ◌+◌, ◌-◌, ◌<◌, ◌≤◌, true, false, ◌&&◌, eqb, ◌⊎◌, List, [], ◌∷◌, ◌++◌, map, length, get_or, set, sym, refl, ap, ◌∙◌, subst, inl, inr, ⊎_elim, arith}
 use Rattle.std.specs.List.{swap_remove}
-use Rattle.std.proofs.lemmas.Bool.{cases_eq, cases_lt, cases_Bool, cond_both, cond-true, cond-false, not-true, not_from_false, eq-eqb}
+use Rattle.std.proofs.lemmas.Bool.{cases_eq, cases_lt, cases_Bool, cond-true, cond-false, not-true, not_from_false, eq-eqb}
 use Rattle.std.proofs.lemmas.Bool.Decides.{nat_tests}
 use Rattle.std.proofs.lemmas.List.{get_or-take, length-take-le, get_or-set_other, get_or-set_same, get_or_append_left, get_or_push, length-append, length-set}
 use Rattle.network.specs.Lists.{In}
 use Rattle.network.specs.Clauses.{has, last, front}
 use Rattle.network.proofs.Lists.{in_left, in_right, in_cases, in_kept, kept_in, in_map, map_in, any_from, in_flat_map, flat_map_in, has_in}
-use Rattle.rules.specs.Store.{Ref, live, dead, Meaning, is_at, from, up_to, literals, with_use, entered, moved_ref, removed, with_first, places, index_on, filled}
+use Rattle.rules.specs.Store.{Ref, live, dead, Meaning, is_at, from, up_to, literals, with_use, entered, moved_ref, removed, places, index_on, filled}
 use Rattle.rules.specs.Index.{Indexed}
 use Rattle.rules.proofs.Places.{in_at, changed_here, changed_apart}
 

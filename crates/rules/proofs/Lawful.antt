@@ -1,17 +1,17 @@
 -- Every change of a store keeps its meaning lawful. Assumes nothing.
-use Rattle.std.proofs.Common.{◌≡◌, ℕ, zero, suc, ◌+◌, ◌-◌, ◌<◌, ◌≤◌, true, false, cond, not, ◌&&◌, ◌||◌, eqb, ltb, ◌⊎◌, List, [], ◌∷◌, ◌++◌, map, length, get_or, filter, sym, refl, ap, ◌∙◌, subst, inl, inr, ⊎_elim, arith, flat_map}
+use Rattle.std.proofs.Common.{◌≡◌, ℕ, zero, suc, ◌+◌, ◌-◌, ◌<◌, ◌≤◌, true, false, cond, not, ◌&&◌, ◌||◌, eqb, ltb, ◌⊎◌, List, [], ◌∷◌, ◌++◌, map, length, get_or, filter, sym, refl, ap, ◌∙◌, subst, inl, inr, ⊎_elim, arith}
 use Rattle.std.specs.List.{list_any}
-use Rattle.std.proofs.lemmas.Bool.{cases_eq, cases_lt, cases_Bool, cond_both, cond-true, cond-false, both_ways, and_parts, ltb-true, not-true}
+use Rattle.std.proofs.lemmas.Bool.{cases_eq, cases_lt, cases_Bool, cond_both, cond-true, cond-false, both_ways, and_parts, ltb-true}
 use Rattle.std.proofs.lemmas.Bool.Decides.{nat_tests}
 use Rattle.std.proofs.lemmas.List.Edits.{length-remove}
 use Rattle.std.proofs.lemmas.List.{length-append}
 use Rattle.network.specs.Lists.{In}
 use Rattle.network.specs.Clauses.{has, last, front, without, well_formed}
-use Rattle.network.proofs.Lists.{in_cases, kept_in, map_in, any_none, flat_map_in, has_in}
+use Rattle.network.proofs.Lists.{in_cases, map_in, any_none, has_in}
 use Rattle.rules.specs.Store.{Ref, live, dead, Meaning, is_at, is_dead, from, literals, sum_of, how_many, live_clauses, kept_clauses, emptied, with_use, entered, moved_ref, removed, after_retired, referred, retired, shortened, filled, index_on, index_off, present, enterable, droppable}
 use Rattle.rules.specs.Lawful.{Lawful}
 use Rattle.rules.proofs.Places.{in_at, closed_in, set_in, retired_own, retired_apart, shortened_own, shortened_apart, shortened_length, part_at}
-use Rattle.rules.proofs.Index.{live_lit, live_place, live_dead, at_is, moved_here, moved_not, removed_apart, removed_length, removed_origin, entered_cases, entered_own, entered_apart, old_stays, filled_named, filled_live, in_up_to}
+use Rattle.rules.proofs.Index.{live_lit, live_place, live_dead, at_is, removed_apart, removed_length, removed_origin, entered_cases, entered_own, old_stays, filled_named, filled_live, in_up_to}
 use Rattle.rules.proofs.HowMany.{count_either, count_more, count_kept, count_map, count_none, count_append, count_one, sum_part}
 use Rattle.rules.proofs.Once.{is_at_of, removed_once, index_once}
 use Rattle.rules.proofs.Lives.{entered_kept, removed_kept, removed_part, retired_live, shortened_live}

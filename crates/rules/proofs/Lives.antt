@@ -6,7 +6,7 @@ use Rattle.std.proofs.lemmas.List.Edits.{length-remove}
 use Rattle.std.proofs.lemmas.List.{length-append}
 use Rattle.network.specs.Lists.{In}
 use Rattle.network.specs.Clauses.{last}
-use Rattle.rules.specs.Store.{Meaning, literals, sum_of, live_clauses, kept_clauses, entered, removed, retired, shortened, index_on, index_off, present, droppable, retire, shorten}
+use Rattle.rules.specs.Store.{Meaning, literals, sum_of, live_clauses, kept_clauses, entered, removed, retired, shortened, index_on, index_off, droppable, retire, shorten}
 use Rattle.rules.proofs.Places.{in_at, at_in, retired_own, retired_apart, shortened_length, part_at}
 use Rattle.rules.proofs.Index.{removed_own, removed_apart, removed_length, swap_length, swap_here, swap_other, entered_own, entered_apart}
 use Rattle.rules.proofs.Along.{fewer_chains, allowed_along, clear_along}

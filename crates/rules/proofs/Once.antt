@@ -1,10 +1,9 @@
 -- No list of uses has a place twice. Assumes nothing.
-use Rattle.std.proofs.Common.{◌≡◌, ℕ, zero, suc, ◌-◌, ◌<◌, ◌≤◌, true, false, cond, not, ◌⊎◌, List, [], ◌∷◌, length, filter, sym, refl, ap, ◌∙◌, subst, inl, inr, ⊎_elim, arith, flat_map}
-use Rattle.std.proofs.lemmas.Bool.{cases_eq, cases_Bool, cond_both, both_ways, not-true}
+use Rattle.std.proofs.Common.{◌≡◌, ℕ, zero, suc, ◌-◌, ◌<◌, ◌≤◌, true, false, cond, not, ◌⊎◌, List, [], ◌∷◌, length, filter, sym, refl, ap, ◌∙◌, subst, inl, ⊎_elim, arith, flat_map}
+use Rattle.std.proofs.lemmas.Bool.{cases_eq, cases_Bool, both_ways, not-true}
 use Rattle.network.specs.Lists.{In}
-use Rattle.network.specs.Clauses.{has, front}
 use Rattle.network.proofs.Lists.{kept_in}
-use Rattle.rules.specs.Store.{Ref, live, dead, Meaning, is_at, from, literals, how_many, moved_ref, removed, places, index_on, filled}
+use Rattle.rules.specs.Store.{Ref, live, dead, Meaning, is_at, from, how_many, moved_ref, removed, places, index_on, filled}
 use Rattle.rules.proofs.Index.{at_is, is_here}
 use Rattle.rules.proofs.HowMany.{count_more, count_kept, count_map, count_append}
 

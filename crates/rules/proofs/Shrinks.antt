@@ -17,7 +17,7 @@ use Rattle.rules.proofs.Verdicts.{last_in}
 use Rattle.rules.proofs.TakenOut.{cost_zero, out_to}
 use Rattle.rules.proofs.Formed.{formed_parts, some_not_nil, without_shorter}
 use Rattle.rules.proofs.Along.{equal_chains, fewer_chains, clear_along, taken_out_along}
-use Rattle.rules.proofs.Lives.{removed_part, removed_dead, removed_kept}
+use Rattle.rules.proofs.Lives.{removed_dead, removed_kept}
 use Rattle.rules.proofs.Counting.{Fine, taken_out_fewer}
 
 -- ## Fewer lemmas than resolvents

@@ -1,9 +1,8 @@
 -- A clause under the known values. Assumes nothing.
-use Rattle.std.proofs.Common.{◌≡◌, ℕ, ◌<◌, Bool, true, false, ◌⊎◌, List, [], ◌∷◌, Some, None, Option, sym, refl, ap, ◌∙◌, subst, inl, inr, ⊎_elim, arith}
+use Rattle.std.proofs.Common.{◌≡◌, ℕ, Bool, true, false, ◌⊎◌, List, [], ◌∷◌, Some, None, Option, sym, refl, ap, ◌∙◌, subst, inl, inr, ⊎_elim, arith}
 use Rattle.std.proofs.lemmas.Bool.Decides.{nat_tests}
 use Rattle.network.specs.Assignments.{Assignment, node, lit, holds}
 use Rattle.network.specs.Lists.{In}
-use Rattle.network.specs.Clauses.{Ordered}
 use Rattle.network.proofs.Literals.{lit_agree}
 use Rattle.network.proofs.Lists.{any_from, any_some}
 use Rattle.network.specs.Values.{Values, sign, flipped, literal, unit_of, simplified, Satisfied}

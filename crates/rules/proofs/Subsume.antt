@@ -3,7 +3,7 @@ use Rattle.std.proofs.Common.{◌≡◌, ℕ, zero, suc, ◌+◌, ◌-◌, ◌<�
 use Rattle.std.proofs.lemmas.List.{get_or_past}
 use Rattle.std.proofs.lemmas.Bool.{cases_eq, cases_lt, cond_both, ltb-true}
 use Rattle.std.proofs.lemmas.Bool.Decides.{nat_tests}
-use Rattle.network.specs.Assignments.{Assignment, node, opposite, holds}
+use Rattle.network.specs.Assignments.{Assignment, node, opposite}
 use Rattle.network.specs.Lists.{In}
 use Rattle.network.specs.Networks.{Network}
 use Rattle.network.specs.Clauses.{Ordered, without, Subsumes, owner, last}
@@ -132,8 +132,11 @@ module _ (first : Network) (n : ℕ) (V : Values) (gone frozen : Assignment) whe
 
     -- what is left of D where C takes a literal out of it
     rest_follows : (x : ℕ) → Strengthens x C D → Implied (held M) (without (opposite x) D)
-    rest_follows x b = (suc (node l + node k), λ σ s. strengthened σ x C D b (clause_at (held M) (suc (node l + node k)) (node l) C σ s (omega arith) in_c)
-        (clause_at (held M) (suc (node l + node k)) (node k) D σ s (omega arith) (in_d (some_D (opposite x) b.there))))
+    rest_follows x b = (
+      suc (node l + node k),
+      λ σ s. strengthened σ x C D b (clause_at (held M) (suc (node l + node k)) (node l) C σ s (omega arith) in_c)
+          (clause_at (held M) (suc (node l + node k)) (node k) D σ s (omega arith) (in_d (some_D (opposite x) b.there))),
+    )
 
     strengthened_kept : (x z : ℕ) → z ≡ opposite x → Strengthens x C D → (node x ≡ owner D → ⊥) → KeptIn (shortened k j z M)
     unfolding D

@@ -1,5 +1,5 @@
 -- The clauses that name a node are cleared. Assumes nothing.
-use Rattle.std.proofs.Common.{◌≡◌, ℕ, zero, suc, ◌+◌, ◌*◌, ◌<◌, Bool, true, false, ◌||◌, ◌⊎◌, List, [], ◌∷◌, map, length, get_or, sym, refl, ap, ◌∙◌, subst, inl, inr, ⊎_elim, arith, ◌≤◌}
+use Rattle.std.proofs.Common.{◌≡◌, ℕ, ◌+◌, ◌*◌, ◌<◌, Bool, true, false, ◌||◌, ◌⊎◌, List, [], ◌∷◌, length, get_or, sym, ap, ◌∙◌, subst, inl, inr, ⊎_elim, arith, ◌≤◌}
 use Rattle.std.specs.List.{list_any}
 use Rattle.std.proofs.lemmas.Bool.{cases_eq, cases_Bool, both_ways, or_parts, or_from}
 use Rattle.network.specs.Assignments.{node}
@@ -7,7 +7,7 @@ use Rattle.network.specs.Lists.{In}
 use Rattle.network.specs.Networks.{Free}
 use Rattle.network.proofs.Lists.{any_some, any_from}
 use Rattle.network.specs.Clauses.{last, front}
-use Rattle.rules.specs.Store.{Ref, live, dead, Meaning, is_at, from, up_to}
+use Rattle.rules.specs.Store.{Ref, live, dead, Meaning, is_at, up_to}
 use Rattle.rules.specs.Held.{held, Placed}
 use Rattle.rules.specs.Index.{Indexed}
 use Rattle.rules.specs.Work.{Work, each, literals_of, clear, clear_all}

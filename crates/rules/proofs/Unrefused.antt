@@ -1,5 +1,5 @@
 -- No entry of start, const_simplify or bve_simplify is refused, so each is what it is without the tests. Assumes nothing.
-use Rattle.std.proofs.Common.{◌≡◌, ℕ, zero, suc, ◌+◌, ◌*◌, ◌/◌, ◌<◌, ◌≤◌, Bool, true, false, cond, not, ltb, List, [], ◌∷◌, map, length, Some, None, Option, sym, refl, ap, ◌∙◌, subst, ⊎_elim, arith}
+use Rattle.std.proofs.Common.{◌≡◌, ℕ, zero, suc, ◌+◌, ◌*◌, ◌/◌, ◌<◌, ◌≤◌, Bool, true, false, cond, not, ltb, List, [], ◌∷◌, map, length, Some, sym, refl, ap, ◌∙◌, subst, ⊎_elim, arith}
 use Rattle.std.specs.List.{list_any}
 use Rattle.std.proofs.lemmas.Bool.{cond_both, or_parts, and_parts, not-true, ltb-false}
 use Rattle.network.specs.Assignments.{Assignment, node}
@@ -13,8 +13,8 @@ use Rattle.rules.specs.Store.{Meaning, from, up_to, sum_of, live_clauses, kept_c
 use Rattle.rules.specs.Held.{held, Placed}
 use Rattle.rules.specs.Good.{Good}
 use Rattle.rules.specs.Lawful.{Lawful}
-use Rattle.rules.specs.Work.{Work, storing, each, nodes_of, clear, clear_all}
-use Rattle.rules.specs.Const.{then_negative, both_cleared, judged, const_node, if_known, const_drop, const_simplify}
+use Rattle.rules.specs.Work.{Work, storing, each, nodes_of, clear}
+use Rattle.rules.specs.Const.{then_negative, both_cleared, judged, const_node, const_drop, const_simplify}
 use Rattle.rules.specs.Bve.{cost, all_resolvents, use_count, uses_cleared, taken_out, eliminated, passed_over, given_up, attempted, attempt, least, but, attempts, bve_simplify}
 use Rattle.rules.specs.Turns.{Turn, entries, turns, const_turns, judged_entries, node_entries, const_entries, attempt_turns, bve_turns, takes_out, attempt_entries, bve_entries, Accepted, AllAccepted}
 use Rattle.rules.proofs.Plain as plain
