@@ -69,7 +69,7 @@ without_in x l C i = let k = kept_in (λ k. not (eqb k x)) l C i in (k.0, λ e. 
 pub ordered : (R : List ℕ) → Rising R → twice R ≡ false → Ordered R
 ordered [] r t = tt
 ordered (x ∷ []) r t = ((λ y i. absurd i), tt)
-ordered (x ∷ y ∷ R) (l, (m, r)) t = grind (arith, nat_tests, or_parts (eqb (node x) (node y)) (twice (y ∷ R)) t, m, ordered (y ∷ R) (m, r), r)
+ordered (x ∷ y ∷ R) (l, (m, r)) t = grind (arith, nat_tests, or_parts (eqb (node x) (node y)) (twice (y ∷ R)) t, ordered (y ∷ R) (m, r))
 
 pub clash_of : (R : List ℕ) → Rising R → twice R ≡ true → (l : ℕ) × In l R × In (opposite l) R
 clash_of [] r t = absurd (both_ways false refl t)

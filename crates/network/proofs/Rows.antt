@@ -62,7 +62,7 @@ row_code (x ∷ xs) σ k i = grind (arith, nat_tests, row_step x xs σ k, eqb-tr
 
 pub row_false : (xs : List ℕ) (σ : Assignment) (k : ℕ) → σ k ≡ false → row xs (code xs σ) k ≡ false
 row_false [] σ k f = refl
-row_false (x ∷ xs) σ k f = grind (arith, nat_tests, row_step x xs σ k, eqb-true k x, f, row_false xs σ k f)
+row_false (x ∷ xs) σ k f = grind (arith, nat_tests, row_step x xs σ k, eqb-true k x, row_false xs σ k f)
 
 -- the row says what σ says, of each node that is accounted for
 pub row_like : (n : ℕ) (xs : List ℕ) (σ : Assignment) (b : Bool) (k : ℕ) → σ 0 ≡ false → Known n xs k → put (row xs (code xs σ)) n b k ≡ put σ n b k
@@ -129,10 +129,10 @@ Distinct (x ∷ xs) = (In x xs → ⊥) × Distinct xs
 
 distinct_push : (xs : List ℕ) (k : ℕ) → Distinct xs → (In k xs → ⊥) → Distinct (xs ++ (k ∷ []))
 distinct_push [] k d n = ((λ i. i), tt)
-distinct_push (x ∷ xs) k (a, d) n = grind (arith, nat_tests, in_cases x xs (k ∷ []), distinct_push xs k d, d)
+distinct_push (x ∷ xs) k (a, d) n = grind (arith, nat_tests, in_cases x xs (k ∷ []), distinct_push xs k d)
 
 noted_distinct : (n k : ℕ) (xs : List ℕ) → Distinct xs → Distinct (noted n xs k)
-noted_distinct n k xs d = grind (arith, nat_tests, d, distinct_push xs k d, any_from (eqb k) xs k, eq-eqb k k)
+noted_distinct n k xs d = grind (arith, nat_tests, distinct_push xs k d, any_from (eqb k) xs k, eq-eqb k k)
 
 noted_in_distinct : (n : ℕ) (C xs : List ℕ) → Distinct xs → Distinct (noted_in n xs C)
 noted_in_distinct n C xs d = fold_keeps Distinct (λ ys l. noted n ys (node l)) C (λ l i ys. noted_distinct n (node l) ys) xs d
@@ -153,7 +153,7 @@ taken_out y (x ∷ ys) (inr i) = let (zs, l, h) = taken_out y ys i in (x ∷ zs,
 
 pub pigeons : (xs ys : List ℕ) → Distinct xs → ((x : ℕ) → In x xs → In x ys) → length xs ≤ length ys
 pigeons [] ys d h = omega arith
-pigeons (x ∷ xs) ys (a, d) h = grind (arith, nat_tests, taken_out x ys, ys, pigeons xs, d)
+pigeons (x ∷ xs) ys (a, d) h = grind (arith, nat_tests, taken_out x ys, pigeons xs)
 
 pub lower_distinct : (n : ℕ) (Cs : List (List ℕ)) → Distinct (lower n Cs)
 lower_distinct n Cs = fold_keeps Distinct (noted_in n) Cs (λ C i ys. noted_in_distinct n C ys) [] tt
@@ -161,7 +161,7 @@ lower_distinct n Cs = fold_keeps Distinct (noted_in n) Cs (λ C i ys. noted_in_d
 -- a node that is not among xs is false in every row
 pub row_out : (xs : List ℕ) (r k : ℕ) → (In k xs → ⊥) → row xs r k ≡ false
 row_out [] r k n = refl
-row_out (x ∷ xs) r k n = grind (arith, nat_tests, r, eqb-true k x, row_out xs (r / 2) k)
+row_out (x ∷ xs) r k n = grind (arith, nat_tests, eqb-true k x, row_out xs (r / 2) k)
 
 pub lower_zero : (n : ℕ) (Cs : List (List ℕ)) → In 0 (lower n Cs) → ⊥
 lower_zero n Cs i = lower_only (λ (x : ℕ). x ≡ 0 → ⊥) n Cs (λ C j l m a b. a) 0 i refl

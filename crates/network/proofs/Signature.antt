@@ -194,8 +194,8 @@ module _ (C D : List ℕ) (s : ℕ × ℕ) (c : Covers s D) where
 
   -- where C is part of D, no bit is missing
   pub part_within : Subsumes C D → within (signature C) s ≡ true
-  part_within h = grind (arith, nat_tests, and_from (eqb (bit_and (signature C).0 s.0) (signature C).0) (eqb (bit_and (signature C).1 s.1) (signature C).1), C, eq-eqb, and_from_bits (signature C).0 s.0, low_below, and_from_bits (signature C).1 s.1, high_below)
+  part_within h = grind (arith, nat_tests, and_from (eqb (bit_and (signature C).0 s.0) (signature C).0) (eqb (bit_and (signature C).1 s.1) (signature C).1), eq-eqb, and_from_bits (signature C).0 s.0, low_below, and_from_bits (signature C).1 s.1, high_below)
 
   -- where each literal but those of one bit stands in D, at most one bit is missing
   pub but_one_missing : (k : ℕ) → ((l : ℕ) → In l C → (place l ≡ k → ⊥) → In l D) → missing (signature C) s ≤ 1
-  but_one_missing k h = grind (arith, nat_tests, at_most_one k (signature C).0 s.0, C, low_below, none_missing (signature C).1 s.1, high_below, none_missing (signature C).0 s.0, at_most_one (k - 64) (signature C).1 s.1, cases_lt k 64)
+  but_one_missing k h = grind (arith, nat_tests, at_most_one k (signature C).0 s.0, low_below, none_missing (signature C).1 s.1, high_below, none_missing (signature C).0 s.0, at_most_one (k - 64) (signature C).1 s.1, cases_lt k 64)

@@ -34,7 +34,7 @@ tautology_holds σ x C D t = grind (arith, t.at, t.one, t.two, lit_neg σ t.at, 
 -- C names v, or does not
 pub named : (v : ℕ) (C : List ℕ) → Free v C ⊎ ((x : ℕ) × In x C × (node x ≡ v))
 named v [] = inl (λ l i e. i)
-named v (c ∷ C) = grind (arith, cases_eq (node c) v, named v C, C)
+named v (c ∷ C) = grind (arith, cases_eq (node c) v, named v C)
 
 -- v by its definition: of the values of v, its clauses cs allow b alone, and the resolvents with its uses say what the uses say at b
 module _ (cs us : List (List ℕ)) (v : ℕ) (σ : Assignment) (b : Bool) (oc : (D : List ℕ) → In D cs → Ordered D) (ou : (C : List ℕ) → In C us → Ordered C)

@@ -99,7 +99,7 @@ module _ (own new : Network) (v : ℕ) (wf : Owned own)
 
     -- a model of the new network has a value of v that makes it a model of the old one, and not two
     pub has_value : (k : ℕ) (σ : Assignment) → v ≤ k → Below (level new) k σ → (b : Bool) × level own v (put σ v b) × Below (level own) k (put σ v b)
-    has_value k σ l s = grind (arith, nat_tests, lower v σ, s, restored k σ)
+    has_value k σ l s = grind (arith, nat_tests, lower v σ, restored k σ)
 
     pub one_value : (k : ℕ) (σ : Assignment) → v < k → Below (level own) k (put σ v true) → Below (level own) k (put σ v false) → ⊥
     one_value k σ l p q =

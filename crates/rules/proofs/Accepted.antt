@@ -79,7 +79,7 @@ module _ (C : List ℕ) (W : Work) where
     where
       go : (o : Option (List ℕ)) → simplified W.values C ≡ o → add_simplified o W ≡ plain.add_simplified o W
       go None e = refl
-      go (Some S) e = grind (arith, W.values, enter_yes S W.store, W.store, and_from (well_formed S) (ltb (kept_clauses W.store) W.store.room), lt-ltb (kept_clauses W.store) W.store.room)
+      go (Some S) e = grind (arith, enter_yes S W.store, W.store, and_from (well_formed S) (ltb (kept_clauses W.store) W.store.room), lt-ltb (kept_clauses W.store) W.store.room)
 
 -- ## Entries one after another
 
@@ -140,7 +140,7 @@ shrinks_short V C S e = go (simplified V C) (no_longer V C) e
 
     go : (o : Option (List ℕ)) → NoLonger C o → fate_of C o ≡ shrinks S → length S ≤ length C
     go None n q = absurd (not_goes q)
-    go (Some T) (n, f) q = grind (arith, C, stays, not_stays, not_goes, q)
+    go (Some T) (n, f) q = grind (arith, not_stays, not_goes)
 
 pub judged_short : (Cs : List (List ℕ)) (W : Work) → ((C : List ℕ) → In C Cs → length C ≤ 32) → AllShort W.store → AllShort (plain.judged Cs W).1.store
 judged_short [] W s h = unfold plain.judged in h

@@ -65,7 +65,7 @@ module _ (M : Meaning) (v : ℕ) where
 
   one_in : (p : ℕ) (R : List ℕ) (Rs : List Ref) → In R (resolvents M p (M.own p) Rs) → (C : List ℕ) × (r : Ref) × In C (M.own p) × In r Rs × (resolve p C (referred_clause M r) ≡ Some R)
   unfolding resolvents
-  one_in p R Rs h = grind (arith, nat_tests, flat_map_in, p, M, Rs, M.own p, option_in)
+  one_in p R Rs h = grind (arith, nat_tests, flat_map_in, option_in)
 
   upon : (R : List ℕ) → In R (all_resolvents M v) → Upon M v R
   unfolding all_resolvents

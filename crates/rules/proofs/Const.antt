@@ -117,7 +117,7 @@ turn_then m W N R p q = record {
 
 -- where the node has no value at the end, nothing has changed
 turn_path : (m : ℕ) (W N : Work) → Turn m W N → N.values m ≡ None → N.values ≡ W.values
-turn_path m W N t u = grind (arith, N.values, known (W.values m), W.values m, m, t.values, cases_eq, none_some, t.grow m)
+turn_path m W N t u = grind (arith, known (W.values m), t.values, cases_eq, none_some, t.grow m)
 
 module _ (first : Network) (n : ℕ) (gone frozen : Assignment) where
   pub record Consting (W : Work) : Type 0 where

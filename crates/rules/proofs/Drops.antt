@@ -111,4 +111,4 @@ module _ (first own : Network) (n : ℕ) (V : Values) (gone frozen : Assignment)
           (λ j b v i. ⊎_elim (λ h. h) (λ (q, s). absurd (gone_unit j b q s)) (lost j (unit_of j b) i))
         where
           gone_unit : (j : ℕ) (b : Bool) → j ≡ k → Subsumes A (unit_of j b) → ⊥
-          gone_unit j b q s = grind (arith, unit_single j b, owner_in A a_not_nil, a_not_nil, s)
+          gone_unit j b q s = grind (arith, unit_single j b, owner_in A a_not_nil, a_not_nil)

@@ -11,7 +11,7 @@ use Rattle.network.proofs.Resolution.{in_without}
 pub order_is : (C : List ℕ) → in_order C ≡ true → Ordered C
 order_is [] e = tt
 order_is (x ∷ []) e = ((λ y i. absurd i), tt)
-order_is (x ∷ y ∷ C) e = grind (arith, and_parts, C, order_is (y ∷ C), ltb-true)
+order_is (x ∷ y ∷ C) e = grind (arith, and_parts, order_is (y ∷ C), ltb-true)
 
 pub is_order : (C : List ℕ) → Ordered C → in_order C ≡ true
 is_order [] o = refl

@@ -59,7 +59,7 @@ module _ (M : Meaning) (l i : ℕ) where
 
   pub removed_origin : (x : ℕ) (s : Ref) → In s ((removed l i M).uses x) → (r : Ref) × In r (M.uses x) × (is_at l i r ≡ false) × (s ≡ moved_ref l (length (M.own l) - 1) i r)
   unfolding removed
-  removed_origin x s h = grind (arith, nat_tests, map_in (moved_ref l (length (M.own l) - 1) i) s, M.own l, s, M.uses x, kept_in, not-true)
+  removed_origin x s h = grind (arith, nat_tests, map_in (moved_ref l (length (M.own l) - 1) i) s, kept_in, not-true)
 
   module _ (I : Indexed M) (li : i < length (M.own l)) where
     end : ℕ
@@ -73,7 +73,7 @@ module _ (M : Meaning) (l i : ℕ) where
     -- a ref that stays
     use_stays : (x a b k j : ℕ) → In (live a b) (M.uses x) → is_at l i (live a b) ≡ false → moved_ref l (length (M.own l) - 1) i (live a b) ≡ live k j → In (live k j) ((removed l i M).uses x)
     unfolding removed
-    use_stays x a b k j h f e = grind (arith, nat_tests, M.own l, M.uses x, in_map (moved_ref l (length (M.own l) - 1) i) (live a b), in_kept, not_from_false (is_at l i (live a b)) f, f)
+    use_stays x a b k j h f e = grind (arith, nat_tests, in_map (moved_ref l (length (M.own l) - 1) i) (live a b), in_kept, not_from_false (is_at l i (live a b)) f)
 
     use_every : (x k j : ℕ) → j < length ((removed l i M).own k) → In x (front (get_or ((removed l i M).own k) j [])) → In (live k j) ((removed l i M).uses x)
     use_every x k j lj h = grind (arith, nat_tests, removed_own, removed_apart k, removed_length, swap_here [] i (M.own l), swap_other [] i j (M.own l), I.every x k j, I.every x l (length (M.own l) - 1), use_stays x k j k j, use_stays x l (length (M.own l) - 1) l i, cases_eq k l, cases_eq j i, at_not l i k j, at_not l i l (length (M.own l) - 1), moved_here l (length (M.own l) - 1) i l (length (M.own l) - 1), is_here l (length (M.own l) - 1), moved_not l (length (M.own l) - 1) i k j, at_not l (length (M.own l) - 1) k j)
@@ -90,7 +90,7 @@ module _ (M : Meaning) (l i : ℕ) where
 
         lost : (x : ℕ) → (r : Ref) × In r (M.uses x) × (is_at l i r ≡ false) × (dead ≡ moved_ref l (length (M.own l) - 1) i r) → ⊥
         lost x (dead, o, f, e) = I.no_dead x o
-        lost x (live a b, o, f, e) = grind (arith, nat_tests, live_dead l i, moved_here l (length (M.own l) - 1) i a b, M.own l, live_dead a b, moved_not l (length (M.own l) - 1) i a b, cases_Bool (is_at l (length (M.own l) - 1) (live a b)))
+        lost x (live a b, o, f, e) = grind (arith, nat_tests, live_dead l i, moved_here l (length (M.own l) - 1) i a b, live_dead a b, moved_not l (length (M.own l) - 1) i a b, cases_Bool (is_at l (length (M.own l) - 1) (live a b)))
 
 -- a clause entered
 module _ (M : Meaning) (C : List ℕ) where
@@ -120,7 +120,7 @@ module _ (M : Meaning) (C : List ℕ) where
     use_old x r h = subst (In r) (sym (uses_is x)) (grind (arith, h, in_left r (M.uses x)))
 
     use_new : (x : ℕ) → In x (front C) → In (live (last C) (length (M.own (last C)))) ((entered C M).uses x)
-    use_new x h = grind (arith, nat_tests, C, M.own (last C), uses_is x, M.uses x, any_from (eqb x) (front C) x h, eq-eqb x x, in_right (live (last C) (length (M.own (last C)))) (M.uses x) (live (last C) (length (M.own (last C))) ∷ []))
+    use_new x h = grind (arith, nat_tests, M.own (last C), uses_is x, any_from (eqb x) (front C) x h, eq-eqb x x, in_right (live (last C) (length (M.own (last C)))) (M.uses x) (live (last C) (length (M.own (last C))) ∷ []))
 
     new_named : (x : ℕ) → In x (front C) → (length (M.own (last C)) < length ((entered C M).own (last C))) × In x (front (get_or ((entered C M).own (last C)) (length (M.own (last C))) []))
     new_named x h = grind (arith, entered_own, length-append (M.own (last C)) (C ∷ []), get_or_push (M.own (last C)) C [] (length (M.own (last C))) refl)
@@ -158,13 +158,13 @@ from_length (suc t) i = ap suc (from_length t (suc i))
 pub places_named : (x l : ℕ) (Cs : List (List ℕ)) (i k j : ℕ) → In (live k j) (places x l i Cs) → (k ≡ l) × (i ≤ j) × (j < i + length Cs) × In x (front (get_or Cs (j - i) []))
 unfolding places
 places_named x l [] i k j h = absurd h
-places_named x l (C ∷ Cs) i k j h = grind (arith, nat_tests, C, places_named x l Cs (suc i) k j, live_place k j l i, live_lit k j l i, has_in x (front C))
+places_named x l (C ∷ Cs) i k j h = grind (arith, nat_tests, places_named x l Cs (suc i) k j, live_place k j l i, live_lit k j l i, has_in x (front C))
 
 places_every : (x l : ℕ) (Cs : List (List ℕ)) (i j : ℕ) → j < length Cs → In x (front (get_or Cs j [])) → In (live l (i + j)) (places x l i Cs)
 unfolding places
 places_every x l [] i j lj h = absurd (omega arith)
-places_every x l (C ∷ Cs) i zero lj h = grind (arith, nat_tests, any_from (eqb x) (front C) x h, C, eq-eqb x x)
-places_every x l (C ∷ Cs) i (suc j) lj h = grind (arith, nat_tests, places_every x l Cs (suc i) j, C)
+places_every x l (C ∷ Cs) i zero lj h = grind (arith, nat_tests, any_from (eqb x) (front C) x h, eq-eqb x x)
+places_every x l (C ∷ Cs) i (suc j) lj h = grind (arith, nat_tests, places_every x l Cs (suc i) j)
 
 pub places_live : (x l : ℕ) (Cs : List (List ℕ)) (i : ℕ) → In dead (places x l i Cs) → ⊥
 unfolding places

@@ -122,7 +122,7 @@ module _ (l i : ℕ) (M : Meaning) (L : Lawful M) (li : i < length (M.own l)) wh
 
   removed_mourned : (x : ℕ) → how_many is_dead ((removed l i M).uses x) ≤ M.dead_clauses
   unfolding removed
-  removed_mourned x = grind (arith, nat_tests, count_map is_dead (moved_ref l (length (M.own l) - 1) i), M.own l, M.uses x, count_more, count_kept is_dead, L.mourned x)
+  removed_mourned x = grind (arith, nat_tests, count_map is_dead (moved_ref l (length (M.own l) - 1) i), count_more, count_kept is_dead, L.mourned x)
 
   none_left : (x : ℕ) → M.uses x ≡ [] → (removed l i M).uses x ≡ []
   unfolding removed
@@ -194,7 +194,7 @@ module _ (l i : ℕ) (M : Meaning) (L : Lawful M) (li : i < length (M.own l)) wh
 
   retired_once : (x k j : ℕ) → how_many (is_at k j) ((retired l i M).uses x) ≤ 1
   unfolding retired
-  retired_once x k j = grind (arith, nat_tests, count_map (is_at k j) (after_retired l i) (M.uses x), M.uses x, count_more, before k j, before_is k j, L.once x k (before k j))
+  retired_once x k j = grind (arith, nat_tests, count_map (is_at k j) (after_retired l i) (M.uses x), count_more, before k j, before_is k j, L.once x k (before k j))
 
   dead_after : (r : Ref) → is_dead (after_retired l i r) ≡ true → (is_dead r ≡ true) ⊎ (is_at l i r ≡ true)
   dead_after dead e = inl refl

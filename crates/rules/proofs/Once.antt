@@ -27,7 +27,7 @@ removed_once M l i o x k j = subst (λ n. n ≤ 1) (sym (count_map (is_at k j) (
     ys = filter (λ r. not (is_at l i r)) (M.uses x)
 
     moved_cases : (r : Ref) → is_at k j (moved_ref l (length (M.own l) - 1) i r) ≡ true → ((is_at l (length (M.own l) - 1) r ≡ true) × (is_at l i (live k j) ≡ true)) ⊎ (is_at k j r ≡ true)
-    moved_cases r e = grind (arith, M.own l, r, at_is k j l i, is_here l i)
+    moved_cases r e = grind (arith, at_is k j l i, is_here l i)
 
     here : is_at l i (live k j) ≡ true → how_many (λ r. is_at k j (moved_ref l (length (M.own l) - 1) i r)) ys ≤ 1
     here t =
@@ -46,12 +46,12 @@ removed_once M l i o x k j = subst (λ n. n ≤ 1) (sym (count_map (is_at k j) (
 pub places_low : (x l : ℕ) (Cs : List (List ℕ)) (i k j : ℕ) → ((k ≡ l → ⊥) ⊎ (j < i)) → how_many (is_at k j) (places x l i Cs) ≡ 0
 unfolding places how_many
 places_low x l [] i k j h = refl
-places_low x l (C ∷ Cs) i k j h = grind (arith, places_low x l Cs (suc i) k j, C, at_is k j l i)
+places_low x l (C ∷ Cs) i k j h = grind (arith, places_low x l Cs (suc i) k j, at_is k j l i)
 
 pub places_once : (x l : ℕ) (Cs : List (List ℕ)) (i k j : ℕ) → how_many (is_at k j) (places x l i Cs) ≤ 1
 unfolding places how_many
 places_once x l [] i k j = omega arith
-places_once x l (C ∷ Cs) i k j = grind (arith, places_once x l Cs (suc i) k j, C, at_is k j l i, places_low x l Cs (suc i) k j)
+places_once x l (C ∷ Cs) i k j = grind (arith, places_once x l Cs (suc i) k j, at_is k j l i, places_low x l Cs (suc i) k j)
 
 module _ (M : Meaning) (x : ℕ) where
   every : ℕ → List Ref

@@ -107,7 +107,7 @@ module _ (M : Meaning) (l i : ℕ) where
   -- the clause at another place of own l
   pub retired_at : (j : ℕ) → i < length (M.own l) → j < length (M.own l) → (j ≡ i → ⊥)
       → (cond (ltb i j) (j - 1) j < length ((retired l i M).own l)) × (get_or ((retired l i M).own l) (cond (ltb i j) (j - 1) j) [] ≡ get_or (M.own l) j [])
-  retired_at j li lj a = grind (arith, nat_tests, M.own l, retired_own, length-remove (M.own l) i li, get_or-remove_above (M.own l) i [] (j - 1), get_or-remove_below (M.own l) i [] j)
+  retired_at j li lj a = grind (arith, nat_tests, retired_own, length-remove (M.own l) i li, get_or-remove_above (M.own l) i [] (j - 1), get_or-remove_below (M.own l) i [] j)
 
   module _ (x : ℕ) where
     pub shortened_own : (shortened l i x M).own l ≡ set (M.own l) i (without x (get_or (M.own l) i []))
@@ -132,13 +132,13 @@ module _ (M : Meaning) (l i : ℕ) where
     shortened_here h = held_in (shortened l i x M) l (without x (get_or (M.own l) i [])) (subst (In (without x (get_or (M.own l) i []))) (sym shortened_own) (set_here (M.own l) i (without x (get_or (M.own l) i [])) h))
 
     pub shortened_length : (k : ℕ) → length ((shortened l i x M).own k) ≡ length (M.own k)
-    shortened_length k = grind (arith, nat_tests, M, shortened_own, length-set (M.own l) i (without x (get_or (M.own l) i [])), M.own l, shortened_apart k, cases_eq k l)
+    shortened_length k = grind (arith, nat_tests, shortened_own, length-set (M.own l) i (without x (get_or (M.own l) i [])), shortened_apart k, cases_eq k l)
 
     pub shortened_at : i < length (M.own l) → get_or ((shortened l i x M).own l) i [] ≡ without x (get_or (M.own l) i [])
     shortened_at h = ap (λ xs. get_or xs i []) shortened_own ∙ get_or-set_same (M.own l) i (without x (get_or (M.own l) i [])) [] h
 
     pub shortened_other : (k j : ℕ) → ((k ≡ l) → (j ≡ i) → ⊥) → get_or ((shortened l i x M).own k) j [] ≡ get_or (M.own k) j []
-    shortened_other k j a = grind (arith, nat_tests, M, shortened_own, get_or-set_other (M.own l) i j (without x (get_or (M.own l) i [])) [], M.own l, shortened_apart k, cases_eq k l)
+    shortened_other k j a = grind (arith, nat_tests, shortened_own, get_or-set_other (M.own l) i j (without x (get_or (M.own l) i [])) [], shortened_apart k, cases_eq k l)
 
 -- one list changed, with no clause that was not there
 pub part_at : (M N : Meaning) (l : ℕ) → ((k : ℕ) → (k ≡ l → ⊥) → N.own k ≡ M.own k) → ((E : List ℕ) → In E (N.own l) → In E (M.own l)) → (k : ℕ) (E : List ℕ) → In E (N.own k) → In E (M.own k)

@@ -51,7 +51,7 @@ module _ (W : Work) (n : ℕ) where
 
   handed_own : (C : List ℕ) → ((W.frozen n ≡ false) ⊎ (W.values n ≡ None)) → In C (held W.store n) → In C (handed_out W n)
   unfolding handed_out held
-  handed_own C h i = grind (arith, W.frozen n, W.values n, both_ways (W.frozen n), C)
+  handed_own C h i = grind (arith, both_ways (W.frozen n))
 
   handed_unit : (b : Bool) → W.frozen n ≡ true → W.values n ≡ Some b → In (unit_of n b) (handed_out W n)
   unfolding handed_out

@@ -152,7 +152,7 @@ module _ (first : Network) (n : ℕ) (gone frozen : Assignment) (small : n ≤ 1
 -- valued nodes lose clauses
 drop_kept : (n : ℕ) (W : Work) → kept_clauses (const_drop n W).store ≤ kept_clauses W.store
 unfolding const_drop
-drop_kept n W = grind (arith, W.values n, W.store, both_along, fewer_chains kept_clauses, removed_kept)
+drop_kept n W = grind (arith, W.store, both_along, fewer_chains kept_clauses, removed_kept)
 
 drops_kept : (ns : List ℕ) (W : Work) → kept_clauses (each const_drop ns W).store ≤ kept_clauses W.store
 drops_kept = each_along (λ W N. kept_clauses N.store ≤ kept_clauses W.store) (fewer_chains (λ W. kept_clauses W.store)) const_drop drop_kept
