@@ -57,18 +57,18 @@ module _ (M : Meaning) (x : ℕ) where
   every : ℕ → List Ref
   every l = places x l 0 (M.own l)
 
-  gather_low : (m i k j : ℕ) → k < i → how_many (is_at k j) (flat_map every (from i m)) ≡ 0
+  every_low : (m i k j : ℕ) → k < i → how_many (is_at k j) (flat_map every (from i m)) ≡ 0
   unfolding how_many every
-  gather_low zero i k j l = refl
-  gather_low (suc m) i k j l = omega (arith, count_append (is_at k j) (every i) (flat_map every (from (suc i) m)), places_low x i (M.own i) 0 k j (inl (λ e. omega arith)), gather_low m (suc i) k j (omega arith))
+  every_low zero i k j l = refl
+  every_low (suc m) i k j l = omega (arith, count_append (is_at k j) (every i) (flat_map every (from (suc i) m)), places_low x i (M.own i) 0 k j (inl (λ e. omega arith)), every_low m (suc i) k j (omega arith))
 
-  gather_once : (m i k j : ℕ) → how_many (is_at k j) (flat_map every (from i m)) ≤ 1
+  every_once : (m i k j : ℕ) → how_many (is_at k j) (flat_map every (from i m)) ≤ 1
   unfolding how_many every
-  gather_once zero i k j = omega arith
-  gather_once (suc m) i k j = ⊎_elim
-      (λ e. omega (arith, count_append (is_at k j) (every i) (flat_map every (from (suc i) m)), places_once x i (M.own i) 0 k j, gather_low m (suc i) k j (omega (arith, e))))
-      (λ a. omega (arith, count_append (is_at k j) (every i) (flat_map every (from (suc i) m)), places_low x i (M.own i) 0 k j (inl a), gather_once m (suc i) k j)) (cases_eq k i)
+  every_once zero i k j = omega arith
+  every_once (suc m) i k j = ⊎_elim
+      (λ e. omega (arith, count_append (is_at k j) (every i) (flat_map every (from (suc i) m)), places_once x i (M.own i) 0 k j, every_low m (suc i) k j (omega (arith, e))))
+      (λ a. omega (arith, count_append (is_at k j) (every i) (flat_map every (from (suc i) m)), places_low x i (M.own i) 0 k j (inl a), every_once m (suc i) k j)) (cases_eq k i)
 
 pub index_once : (M : Meaning) → M.indexed ≡ false → Once (index_on M)
 unfolding index_on every
-index_once M off = subst (λ b. Once (cond b M (filled M))) (sym off) (λ x k j. gather_once M x 2048 0 k j)
+index_once M off = subst (λ b. Once (cond b M (filled M))) (sym off) (λ x k j. every_once M x 2048 0 k j)

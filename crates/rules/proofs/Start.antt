@@ -1,6 +1,7 @@
 -- A work that start makes keeps the network taken in, and none of its entries is refused. Assumes nothing.
 use Rattle.std.proofs.Common.{◌≡◌, ℕ, zero, suc, ◌+◌, ◌/◌, ◌<◌, ◌≤◌, Bool, true, false, eqb, leb, ◌⊎◌, List, [], ◌∷◌, ◌++◌, map, length, get_or, Some, None, Ok, Err, filter, Option, Result, sym, refl, ap, ◌∙◌, subst, inl, inr, ⊎_elim, arith, flat_map}
 use Rattle.std.proofs.lemmas.Bool.{cases_eq, both_ways, eqb-true, eq-eqb, leb-true}
+use Rattle.std.proofs.lemmas.List.Concat.{flat_map-append}
 use Rattle.std.proofs.lemmas.List.{length-append, length-map}
 use Rattle.network.specs.Assignments.{node}
 use Rattle.network.specs.Lists.{In}
@@ -244,13 +245,9 @@ module _ (ws : List ℕ) (I : Image ws) (fs : List Bool) (z : get_or fs 0 false 
     from_more zero i = ap (λ k. k ∷ []) (omega arith)
     from_more (suc t) i = ap (λ ks. i ∷ ks) (from_more t (suc i) ∙ ap (λ k. from (suc i) t ++ (k ∷ [])) (omega arith))
 
-    gather_length : (f : ℕ → List (List ℕ)) (xs ys : List ℕ) → length (flat_map f (xs ++ ys)) ≡ length (flat_map f xs) + length (flat_map f ys)
-    gather_length f [] ys = omega arith
-    gather_length f (x ∷ xs) ys = omega (arith, length-append (f x) (flat_map f (xs ++ ys)), length-append (f x) (flat_map f xs), gather_length f xs ys)
-
     total_is : (k : ℕ) → length (flat_map (taken_in ws) (from 1 k)) ≡ total ws k
     total_is zero = refl
-    total_is (suc k) = ap (λ xs. length (flat_map (taken_in ws) xs)) (from_more k 1) ∙ gather_length (taken_in ws) (from 1 k) ((1 + k) ∷ [])
+    total_is (suc k) = ap (λ xs. length (flat_map (taken_in ws) xs)) (from_more k 1) ∙ ap length (flat_map-append (taken_in ws) (from 1 k) ((1 + k) ∷ [])) ∙ length-append (flat_map (taken_in ws) (from 1 k)) (flat_map (taken_in ws) ((1 + k) ∷ []))
         ∙ (omega (arith, total_is k, length-append (taken_in ws (1 + k)) [] ∙ (omega arith) ∙ ap (λ j. length (taken_in ws j)) {x = 1 + k} {y = suc k} (omega arith)))
 
     entered_count : length (clauses_in ws) ≡ suc (total ws (top ws))

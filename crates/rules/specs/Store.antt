@@ -28,7 +28,7 @@ abbrev pub is_dead : Ref → Bool
 is_dead (live k j) = false
 is_dead dead = true
 
--- so many numbers from i on
+-- so many numbers from i on, by successors, as the proofs count (the library's `range_with_len` adds 1)
 abbrev pub from : ℕ → ℕ → List ℕ
 from i zero = []
 from i (suc n) = i ∷ from (suc i) n
@@ -41,12 +41,12 @@ up_to n = from 0 n
 abbrev pub literals : List ℕ
 literals = up_to 2048
 
--- the sum
+-- the sum, head by head, as the proofs count (the library's `sum` is a fold)
 abbrev pub sum_of : List ℕ → ℕ
 sum_of [] = 0
 sum_of (n ∷ ns) = n + sum_of ns
 
--- how many pass the test
+-- how many pass the test, head by head (the library's `count_by` is a fold)
 unfoldable pub how_many : {X : Type 0} → (X → Bool) → List X → ℕ
 how_many p [] = 0
 how_many p (x ∷ xs) = cond (p x) (suc (how_many p xs)) (how_many p xs)
