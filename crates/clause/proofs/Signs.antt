@@ -1,11 +1,11 @@
 -- The steps of a signature, and its tests. Assumes nothing.
-use Rattle.std.proofs.Common.{◌≡◌, ℕ, ◌+◌, ◌-◌, ◌*◌, ◌%◌, ◌^◌, ◌<◌, ◌≤◌, Bool, false, eqb, ltb, leb, List, length, get_or, drop, None, sym, ap, ◌∙◌, subst, ⊎_elim, arith}
+use Rattle.std.proofs.Common.{◌≡◌, ℕ, ◌+◌, ◌-◌, ◌*◌, ◌%◌, ◌^◌, ◌<◌, ◌≤◌, Bool, false, eqb, ltb, leb, List, length, get_or, drop, None, sym, ap, ◌∙◌, subst, ⊎_elim, arith, fold}
 use lib.Bits.{bit_and, bit_or}
 use lib.Count.{ones}
 use Rattle.std.proofs.lemmas.Nat.{one_shl}
 use Rattle.std.proofs.lemmas.List.{at_drop_more, at_drop_all}
 use Rattle.std.proofs.lemmas.Bool.{cases_eq, cases_lt, cond-true, cond-false, eq-eqb, ne_eqb, lt-ltb, le-ltb, le-leb, lt-leb, leb-false}
-use Rattle.network.specs.Signature.{place, low, high, added, signature, Covers, within, missing}
+use Rattle.network.specs.Signature.{place, low, high, signature, Covers, within, missing}
 use Rattle.network.specs.Subsumption.{part_of, fits}
 use Rattle.network.proofs.Signature.{ones_lowest, ones_none, ones_zero}
 use Rattle.network.proofs.Spared.{part_spared, fit_spared}
@@ -13,11 +13,11 @@ use Rattle.network.proofs.Spared.{part_spared, fit_spared}
 -- ---- one turn of the loop, at the literal at i
 
 module _ (f : ℕ → ℕ → ℕ) (C : List ℕ) (i n : ℕ) where
-  pub added_more : (m : ℕ) → i < length C → m ≡ f n (get_or C i 0) → added f n (drop i C) ≡ added f 0 C → added f m (drop (i + 1) C) ≡ added f 0 C
-  added_more m h is e = ap (λ k. added f k (drop (i + 1) C)) is ∙ sym (at_drop_more (added f n) C i 0 h) ∙ e
+  pub added_more : (m : ℕ) → i < length C → m ≡ f n (get_or C i 0) → fold f n (drop i C) ≡ fold f 0 C → fold f m (drop (i + 1) C) ≡ fold f 0 C
+  added_more m h is e = ap (λ k. fold f k (drop (i + 1) C)) is ∙ sym (at_drop_more (fold f n) C i 0 h) ∙ e
 
-  pub added_all : length C ≤ i → added f n (drop i C) ≡ added f 0 C → n ≡ added f 0 C
-  added_all h e = sym (at_drop_all (added f n) C i h) ∙ e
+  pub added_all : length C ≤ i → fold f n (drop i C) ≡ fold f 0 C → n ≡ fold f 0 C
+  added_all h e = sym (at_drop_all (fold f n) C i h) ∙ e
 
 module _ (n m l : ℕ) where
   pub low_set : place l < 64 → m ≡ bit_or n ((1 * 2 ^ place l) % 2 ^ 64) → m ≡ low n l

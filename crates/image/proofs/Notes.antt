@@ -1,24 +1,24 @@
 -- The lower nodes of a run, one after another. Assumes nothing.
 use Rattle.std.proofs.Common.{◌≡◌, ℕ, ◌+◌, ◌<◌, ◌≤◌, Bool, true, false, ◌||◌, eqb, List, [], ◌∷◌, ◌++◌, length, get_or, take, drop, set, sym, ap, ◌∙◌, arith}
+use Rattle.std.specs.List.{list_any}
 use Rattle.std.proofs.lemmas.List.{at_drop_more, at_drop_all, length_push, take_more_set}
 use Rattle.std.proofs.lemmas.Bool.{cond-false, cond_both, ne_eqb}
 use Rattle.network.specs.Clauses.{has}
 use Rattle.network.specs.Assignments.{node}
-use Rattle.network.specs.Lists.{any_of}
 use Rattle.image.specs.Runs.{Front, whole, clauses}
 use Rattle.image.proofs.Walks.{whole_on, whole_none, clauses_on, clauses_none}
 use Rattle.network.specs.Rows.{noted, noted_in, noted_all, lower}
 
 -- a test that one of a list passes
-module _ (p : ℕ → Bool) (xs : List ℕ) (i : ℕ) (inv : any_of p (drop i xs) ≡ any_of p xs) where
-  pub any_on : i < length xs → p (get_or xs i 0) ≡ false → any_of p (drop (i + 1) xs) ≡ any_of p xs
-  any_on h t = sym (at_drop_more (any_of p) xs i 0 h ∙ ap (λ (b : Bool). b || any_of p (drop (i + 1) xs)) t) ∙ inv
+module _ (p : ℕ → Bool) (xs : List ℕ) (i : ℕ) (inv : list_any p (drop i xs) ≡ list_any p xs) where
+  pub any_on : i < length xs → p (get_or xs i 0) ≡ false → list_any p (drop (i + 1) xs) ≡ list_any p xs
+  any_on h t = sym (at_drop_more (list_any p) xs i 0 h ∙ ap (λ (b : Bool). b || list_any p (drop (i + 1) xs)) t) ∙ inv
 
-  pub any_here : i < length xs → p (get_or xs i 0) ≡ true → true ≡ any_of p xs
-  any_here h t = sym (at_drop_more (any_of p) xs i 0 h ∙ ap (λ (b : Bool). b || any_of p (drop (i + 1) xs)) t) ∙ inv
+  pub any_here : i < length xs → p (get_or xs i 0) ≡ true → true ≡ list_any p xs
+  any_here h t = sym (at_drop_more (list_any p) xs i 0 h ∙ ap (λ (b : Bool). b || list_any p (drop (i + 1) xs)) t) ∙ inv
 
-  pub any_end : length xs ≤ i → false ≡ any_of p xs
-  any_end h = sym (at_drop_all (any_of p) xs i h) ∙ inv
+  pub any_end : length xs ≤ i → false ≡ list_any p xs
+  any_end h = sym (at_drop_all (list_any p) xs i h) ∙ inv
 
 -- nodes noted
 pub noted_more : (n k : ℕ) (xs : List ℕ) → length xs ≤ length (noted n xs k)

@@ -1,11 +1,11 @@
 -- The clauses of a run under a test. Assumes nothing.
 use Rattle.std.proofs.Common.{◌≡◌, ℕ, zero, suc, ◌+◌, ◌<◌, ◌≤◌, Bool, true, false, cond, ◌&&◌, ltb, List, [], ◌∷◌, ◌++◌, length, get_or, take, drop, Ok, Err, Result, sym, refl, ap, ◌∙◌, arith, length-append, length-drop}
+use Rattle.std.specs.List.{list_all}
 use Rattle.std.proofs.lemmas.List.{at_drop_more, at_drop_all, take_rest, take_at, drop_at}
 use Rattle.std.proofs.lemmas.Bool.{cond-true, cond-false, both_ways, not-true, and_parts, lt-ltb, le-ltb}
 use Rattle.std.proofs.lemmas.Bool.Decides.{nat_tests}
 use Rattle.network.specs.Assignments.{node}
 use Rattle.network.specs.Clauses.{owner, in_order, in_order_from}
-use Rattle.network.specs.Lists.{all_of}
 use Rattle.image.specs.Faults.{fault, tested, ◌then◌}
 use Rattle.image.specs.declared.fault.Fault.{Fault}
 use Rattle.image.specs.Runs.{Front, length_fits, front_cut, whole_by, whole, clauses_by, clauses, clauses_pass_by, clauses_pass}
@@ -51,19 +51,19 @@ module _ (p : List ℕ → Bool) (f : Fault) (n : ℕ) where
   pass_stop ws c rest g t = pass_front ws c rest g ∙ ap (λ (b : Bool). tested b f then (λ _. clauses_pass p f n rest)) t
 
   -- of a run that is not cut, the test asks each clause
-  pass_whole_by : (k : ℕ) (ws : List ℕ) → whole_by k ws ≡ true → clauses_pass_by k p f n ws ≡ tested (all_of p (clauses_by k ws)) f
+  pass_whole_by : (k : ℕ) (ws : List ℕ) → whole_by k ws ≡ true → clauses_pass_by k p f n ws ≡ tested (list_all p (clauses_by k ws)) f
   unfolding clauses_pass_by whole_by clauses_by
   pass_whole_by k [] h = refl
   pass_whole_by zero (l ∷ ws) h = absurd (both_ways false refl h)
   pass_whole_by (suc k) (l ∷ ws) h =
       let (a, b) = and_parts (length_fits l ws) (whole_by k (drop l ws)) h in
-      cond-true _ _ _ a ∙ ap (λ (r : Result (Unit {0}) Fault). tested (p (take l ws)) f then (λ _. r)) (pass_whole_by k (drop l ws) b) ∙ both (p (take l ws)) (all_of p (clauses_by k (drop l ws)))
+      cond-true _ _ _ a ∙ ap (λ (r : Result (Unit {0}) Fault). tested (p (take l ws)) f then (λ _. r)) (pass_whole_by k (drop l ws) b) ∙ both (p (take l ws)) (list_all p (clauses_by k (drop l ws)))
     where
       both : (x y : Bool) → (tested x f then (λ _. tested y f)) ≡ tested (x && y) f
       both true y = refl
       both false y = refl
 
-  pub pass_whole : (ws : List ℕ) → whole ws ≡ true → clauses_pass p f n ws ≡ tested (all_of p (clauses ws)) f
+  pub pass_whole : (ws : List ℕ) → whole ws ≡ true → clauses_pass p f n ws ≡ tested (list_all p (clauses ws)) f
   unfolding clauses_pass whole clauses
   pass_whole ws h = pass_whole_by (length ws) ws h
 

@@ -1,7 +1,7 @@
 -- Each answer of take-in on its ground, and on no other. Assumes nothing.
 use Rattle.std.proofs.Common.{◌≡◌, ℕ, suc, ◌-◌, ◌^◌, ◌<◌, ◌≤◌, Bool, true, false, cond, eqb, leb, List, length, Ok, Err, Result, sym, refl, ap, ◌∙◌, subst, inl, inr, ⊎_elim, arith}
+use Rattle.std.specs.List.{list_all}
 use Rattle.std.proofs.lemmas.Bool.{cond-true, cond-false, ne_eqb, le-leb, cases_lt, both_ways}
-use Rattle.network.specs.Lists.{all_of}
 use Rattle.image.specs.Faults.{fault, ◌then◌, tested}
 use Rattle.image.specs.Runs.{whole, clauses}
 use Rattle.network.specs.Clauses.{in_order, owned}
@@ -38,10 +38,10 @@ module _ (n : ℕ) (xs : List ℕ) where
   counted = cond (whole xs) (Ok (length (clauses xs))) (Err (fault 2 n))
 
   abbrev third : ℕ → Result ℕ Fault
-  third c = tested (all_of (owned n) (clauses xs)) (fault 4 n) then (λ _. rows_answer n xs then (λ _. Ok c))
+  third c = tested (list_all (owned n) (clauses xs)) (fault 4 n) then (λ _. rows_answer n xs then (λ _. Ok c))
 
   abbrev second : ℕ → Result ℕ Fault
-  second c = tested (all_of in_order (clauses xs)) (fault 3 n) then (λ _. third c)
+  second c = tested (list_all in_order (clauses xs)) (fault 3 n) then (λ _. third c)
 
   answer_is : node_answer n xs ≡ (counted then second)
   unfolding node_answer
@@ -50,19 +50,19 @@ module _ (n : ℕ) (xs : List ℕ) where
   after_cut : whole xs ≡ true → node_answer n xs ≡ second (length (clauses xs))
   after_cut w = answer_is ∙ then_at counted second (length (clauses xs)) (cond-true _ _ _ w)
 
-  after_order : whole xs ≡ true → all_of in_order (clauses xs) ≡ true → node_answer n xs ≡ third (length (clauses xs))
-  after_order w o = after_cut w ∙ then_at (tested (all_of in_order (clauses xs)) (fault 3 n)) (λ _. third (length (clauses xs))) tt (cond-true _ _ _ o)
+  after_order : whole xs ≡ true → list_all in_order (clauses xs) ≡ true → node_answer n xs ≡ third (length (clauses xs))
+  after_order w o = after_cut w ∙ then_at (tested (list_all in_order (clauses xs)) (fault 3 n)) (λ _. third (length (clauses xs))) tt (cond-true _ _ _ o)
 
-  after_owner : whole xs ≡ true → all_of in_order (clauses xs) ≡ true → all_of (owned n) (clauses xs) ≡ true → node_answer n xs ≡ (rows_answer n xs then (λ _. Ok (length (clauses xs))))
-  after_owner w o i = after_order w o ∙ then_at (tested (all_of (owned n) (clauses xs)) (fault 4 n)) (λ _. rows_answer n xs then (λ _. Ok (length (clauses xs)))) tt (cond-true _ _ _ i)
+  after_owner : whole xs ≡ true → list_all in_order (clauses xs) ≡ true → list_all (owned n) (clauses xs) ≡ true → node_answer n xs ≡ (rows_answer n xs then (λ _. Ok (length (clauses xs))))
+  after_owner w o i = after_order w o ∙ then_at (tested (list_all (owned n) (clauses xs)) (fault 4 n)) (λ _. rows_answer n xs then (λ _. Ok (length (clauses xs)))) tt (cond-true _ _ _ i)
 
   pub node_back : (f : Fault) → IllFormed n xs f → node_answer n xs ≡ Err f
   node_back f (inl (e, h)) =
       answer_is ∙ then_stop counted second (fault 2 n) (cond-false _ _ _ (not_so (whole xs) (λ t. h (uncut_from xs t)))) ∙ ap Err (sym e)
   node_back f (inr (inl (e, u, h))) =
-      after_cut (uncut_back xs u) ∙ then_stop (tested (all_of in_order (clauses xs)) (fault 3 n)) (λ _. third (length (clauses xs))) (fault 3 n) (cond-false _ _ _ (not_so _ (λ t. h (sorted_from (clauses xs) t)))) ∙ ap Err (sym e)
+      after_cut (uncut_back xs u) ∙ then_stop (tested (list_all in_order (clauses xs)) (fault 3 n)) (λ _. third (length (clauses xs))) (fault 3 n) (cond-false _ _ _ (not_so _ (λ t. h (sorted_from (clauses xs) t)))) ∙ ap Err (sym e)
   node_back f (inr (inr (inl (e, u, s, h)))) =
-      after_order (uncut_back xs u) (sorted_back (clauses xs) s) ∙ then_stop (tested (all_of (owned n) (clauses xs)) (fault 4 n)) (λ _. rows_answer n xs then (λ _. Ok (length (clauses xs)))) (fault 4 n) (cond-false _ _ _ (not_so _ (λ t. h (owned_from n (clauses xs) t)))) ∙ ap Err (sym e)
+      after_order (uncut_back xs u) (sorted_back (clauses xs) s) ∙ then_stop (tested (list_all (owned n) (clauses xs)) (fault 4 n)) (λ _. rows_answer n xs then (λ _. Ok (length (clauses xs)))) (fault 4 n) (cond-false _ _ _ (not_so _ (λ t. h (owned_from n (clauses xs) t)))) ∙ ap Err (sym e)
   node_back f (inr (inr (inr (inl (e, u, s, o, h))))) =
       after_owner (uncut_back xs u) (sorted_back (clauses xs) s) (owned_back n (clauses xs) o) ∙ then_stop (rows_answer n xs) (λ _. Ok (length (clauses xs))) (fault 5 n) (rows_too_wide n xs h) ∙ ap Err (sym e)
   node_back f (inr (inr (inr (inr (e, u, s, o, a, h))))) =

@@ -1,10 +1,11 @@
 -- What take-in tells, in the words of the subject. Assumes nothing.
 use Rattle.std.proofs.Common.{◌≡◌, ℕ, zero, suc, ◌+◌, ◌^◌, ◌<◌, ◌≤◌, Bool, true, false, cond, eqb, ltb, leb, ◌⊎◌, ◌↔◌, List, [], ◌∷◌, ◌++◌, length, take, drop, Ok, Err, Result, sym, refl, ap, ◌∙◌, subst, inl, inr, ⊎_elim, arith, length-drop}
+use Rattle.std.specs.List.{list_all}
 use Rattle.std.proofs.lemmas.List.{take-append-drop, length-take-le}
 use Rattle.std.proofs.lemmas.Bool.{cond-true, cond-false, eq-eqb, eqb-true, eqb-false, cases_Bool, cases_eq, and_parts, and_from, lt-ltb, ltb-true, le-leb, leb-true, leb-false, both_ways}
 use Rattle.network.specs.Clauses.{owner, in_order_from, in_order, owned, Rising}
 use Rattle.network.specs.Assignments.{node}
-use Rattle.network.specs.Lists.{In, all_of}
+use Rattle.network.specs.Lists.{In}
 use Rattle.network.proofs.Lists.{all_at, all_from}
 use Rattle.image.specs.Faults.{fault, ◌then◌, tested}
 use Rattle.image.specs.Runs.{length_fits, whole_by, whole, clauses_by, clauses, written}
@@ -48,16 +49,16 @@ pub order_back : (C : List ℕ) → Rising C × Once C → in_order C ≡ true
 order_back [] h = refl
 order_back (x ∷ C) (r, o) = in_order_back x C r o
 
-pub sorted_from : (Cs : List (List ℕ)) → all_of in_order Cs ≡ true → Sorted Cs
+pub sorted_from : (Cs : List (List ℕ)) → list_all in_order Cs ≡ true → Sorted Cs
 sorted_from Cs h C i = order_from C (all_at in_order Cs h C i)
 
-pub sorted_back : (Cs : List (List ℕ)) → Sorted Cs → all_of in_order Cs ≡ true
+pub sorted_back : (Cs : List (List ℕ)) → Sorted Cs → list_all in_order Cs ≡ true
 sorted_back Cs h = all_from in_order Cs (λ C i. order_back C (h C i))
 
-pub owned_from : (n : ℕ) (Cs : List (List ℕ)) → all_of (owned n) Cs ≡ true → OwnedBy n Cs
+pub owned_from : (n : ℕ) (Cs : List (List ℕ)) → list_all (owned n) Cs ≡ true → OwnedBy n Cs
 owned_from n Cs h C i = eqb-true (owner C) n (all_at (owned n) Cs h C i)
 
-pub owned_back : (n : ℕ) (Cs : List (List ℕ)) → OwnedBy n Cs → all_of (owned n) Cs ≡ true
+pub owned_back : (n : ℕ) (Cs : List (List ℕ)) → OwnedBy n Cs → list_all (owned n) Cs ≡ true
 owned_back n Cs h = all_from (owned n) Cs (λ C i. eq-eqb (owner C) n (h C i))
 
 -- a run
@@ -131,19 +132,19 @@ node_means n xs =
     ⊎_elim
     (λ (w : whole xs ≡ true).
     ⊎_elim
-    (λ (o : all_of in_order (clauses xs) ≡ true).
+    (λ (o : list_all in_order (clauses xs) ≡ true).
     ⊎_elim
-    (λ (i : all_of (owned n) (clauses xs) ≡ true).
-    subst (NodeAnswers n xs) (sym (then_at (counted) rest (length (clauses xs)) (cond-true _ _ _ w) ∙ then_at (tested (all_of in_order (clauses xs)) (fault 3 n)) _ tt (cond-true _ _ _ o) ∙ then_at (tested (all_of (owned n) (clauses xs)) (fault 4 n)) _ tt (cond-true _ _ _ i)))
+    (λ (i : list_all (owned n) (clauses xs) ≡ true).
+    subst (NodeAnswers n xs) (sym (then_at (counted) rest (length (clauses xs)) (cond-true _ _ _ w) ∙ then_at (tested (list_all in_order (clauses xs)) (fault 3 n)) _ tt (cond-true _ _ _ o) ∙ then_at (tested (list_all (owned n) (clauses xs)) (fault 4 n)) _ tt (cond-true _ _ _ i)))
     (last_step n xs (rows_answer n xs) (uncut_from xs w) (sorted_from (clauses xs) o) (owned_from n (clauses xs) i) (rows_mean n xs)))
-    (λ (i : all_of (owned n) (clauses xs) ≡ false).
-    subst (NodeAnswers n xs) (sym (then_at (counted) rest (length (clauses xs)) (cond-true _ _ _ w) ∙ then_at (tested (all_of in_order (clauses xs)) (fault 3 n)) _ tt (cond-true _ _ _ o) ∙ then_stop (tested (all_of (owned n) (clauses xs)) (fault 4 n)) _ (fault 4 n) (cond-false _ _ _ i)))
+    (λ (i : list_all (owned n) (clauses xs) ≡ false).
+    subst (NodeAnswers n xs) (sym (then_at (counted) rest (length (clauses xs)) (cond-true _ _ _ w) ∙ then_at (tested (list_all in_order (clauses xs)) (fault 3 n)) _ tt (cond-true _ _ _ o) ∙ then_stop (tested (list_all (owned n) (clauses xs)) (fault 4 n)) _ (fault 4 n) (cond-false _ _ _ i)))
     (inr (inr (inl (refl, uncut_from xs w, sorted_from (clauses xs) o, λ h. both_ways _ i (owned_back n (clauses xs) h))))))
-    (cases_Bool (all_of (owned n) (clauses xs))))
-    (λ (o : all_of in_order (clauses xs) ≡ false).
-    subst (NodeAnswers n xs) (sym (then_at (counted) rest (length (clauses xs)) (cond-true _ _ _ w) ∙ then_stop (tested (all_of in_order (clauses xs)) (fault 3 n)) _ (fault 3 n) (cond-false _ _ _ o)))
+    (cases_Bool (list_all (owned n) (clauses xs))))
+    (λ (o : list_all in_order (clauses xs) ≡ false).
+    subst (NodeAnswers n xs) (sym (then_at (counted) rest (length (clauses xs)) (cond-true _ _ _ w) ∙ then_stop (tested (list_all in_order (clauses xs)) (fault 3 n)) _ (fault 3 n) (cond-false _ _ _ o)))
     (inr (inl (refl, uncut_from xs w, λ h. both_ways _ o (sorted_back (clauses xs) h)))))
-    (cases_Bool (all_of in_order (clauses xs))))
+    (cases_Bool (list_all in_order (clauses xs))))
     (λ (w : whole xs ≡ false).
     subst (NodeAnswers n xs) (sym (then_stop (counted) rest (fault 2 n) (cond-false _ _ _ w))) (inl (refl, λ h. both_ways _ w (uncut_back xs h))))
     (cases_Bool (whole xs))
@@ -152,7 +153,7 @@ node_means n xs =
     counted = cond (whole xs) (Ok (length (clauses xs))) (Err (fault 2 n))
 
     rest : ℕ → Result ℕ Fault
-    rest c = tested (all_of in_order (clauses xs)) (fault 3 n) then (λ _. tested (all_of (owned n) (clauses xs)) (fault 4 n) then (λ _. rows_answer n xs then (λ _. Ok c)))
+    rest c = tested (list_all in_order (clauses xs)) (fault 3 n) then (λ _. tested (list_all (owned n) (clauses xs)) (fault 4 n) then (λ _. rows_answer n xs then (λ _. Ok c)))
 
 -- all nodes
 abbrev pub NodesAnswers : List ℕ → ℕ → Result ℕ Fault → Type 0

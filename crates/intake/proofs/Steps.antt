@@ -1,8 +1,8 @@
 -- What take-in answers, step by step. Assumes nothing.
 use Rattle.std.proofs.Common.{◌≡◌, ℕ, zero, suc, ◌+◌, ◌-◌, ◌<◌, ◌≤◌, Bool, true, false, cond, eqb, List, [], ◌∷◌, length, drop, Ok, Err, Result, sym, refl, ap, ◌∙◌, subst, ⊎_elim, add-one, arith, length-drop}
+use Rattle.std.specs.List.{list_all}
 use Rattle.std.proofs.lemmas.List.{length-take}
 use Rattle.std.proofs.lemmas.Bool.{cases_lt, eqb-true, le-leb, lt-leb, eq-eqb, ne_eqb, cond-true, cond-false, cases_eq}
-use Rattle.network.specs.Lists.{all_of}
 use Rattle.image.specs.Faults.{fault, ◌then◌, tested}
 use Rattle.image.specs.Runs.{whole, clauses, clauses_by, clauses_pass}
 use Rattle.network.specs.Clauses.{in_order, owned}
@@ -53,8 +53,8 @@ clauses_short ws = clauses_few (length ws) ws
 
 pub record NodePassed (n : ℕ) (ws : List ℕ) (d : ℕ) : Type 0 where
   pub whole_is : whole ws ≡ true
-  pub order : all_of in_order (clauses ws) ≡ true
-  pub owner : all_of (owned n) (clauses ws) ≡ true
+  pub order : list_all in_order (clauses ws) ≡ true
+  pub owner : list_all (owned n) (clauses ws) ≡ true
   pub loose : Bool
   pub rows : rows_answer n ws ≡ Ok loose
   pub count : length (clauses ws) ≡ d
@@ -63,14 +63,14 @@ pub node_parts : (n : ℕ) (ws : List ℕ) (d : ℕ) → node_answer n ws ≡ Ok
 unfolding node_answer
 node_parts n ws d h =
     let (c, a, h1) = then_ok (cond (whole ws) (Ok (length (clauses ws))) (Err (fault 2 n))) _ d h in
-    let (_, b, h2) = then_ok (tested (all_of in_order (clauses ws)) (fault 3 n)) _ d h1 in
-    let (_, o, h3) = then_ok (tested (all_of (owned n) (clauses ws)) (fault 4 n)) _ d h2 in
+    let (_, b, h2) = then_ok (tested (list_all in_order (clauses ws)) (fault 3 n)) _ d h1 in
+    let (_, o, h3) = then_ok (tested (list_all (owned n) (clauses ws)) (fault 4 n)) _ d h2 in
     let (l, r, h4) = then_ok (rows_answer n ws) _ d h3 in
     let (w, e) = cond_ok (whole ws) (length (clauses ws)) c (fault 2 n) a in
     record {
       whole_is = w;
-      order = (cond_ok (all_of in_order (clauses ws)) tt _ (fault 3 n) b).0;
-      owner = (cond_ok (all_of (owned n) (clauses ws)) tt _ (fault 4 n) o).0;
+      order = (cond_ok (list_all in_order (clauses ws)) tt _ (fault 3 n) b).0;
+      owner = (cond_ok (list_all (owned n) (clauses ws)) tt _ (fault 4 n) o).0;
       loose = l;
       rows = r;
       count = e ∙ (cc);
@@ -93,7 +93,7 @@ module _ (n : ℕ) (ws : List ℕ) where
   steps_are c h =
       let (w, e) = cond_ok (whole ws) (length (clauses ws)) c (fault 2 n) (sym h) in
       then_at counted _ c (sym h)
-      ∙ ap (λ (r : Result (Unit {0}) Fault). r then (λ _. tested (all_of (owned n) (clauses ws)) (fault 4 n) then (λ _. rows_answer n ws then (λ _. Ok c)))) (sym (pass_whole in_order (fault 3 n) n ws w))
+      ∙ ap (λ (r : Result (Unit {0}) Fault). r then (λ _. tested (list_all (owned n) (clauses ws)) (fault 4 n) then (λ _. rows_answer n ws then (λ _. Ok c)))) (sym (pass_whole in_order (fault 3 n) n ws w))
       ∙ ap (λ (r : Result (Unit {0}) Fault). ordered then (λ _. r then (λ _. rows_answer n ws then (λ _. Ok c)))) (sym (pass_whole (owned n) (fault 4 n) n ws w))
 
   pub whole_from : (c : ℕ) → Ok c ≡ counted → whole ws ≡ true

@@ -1,7 +1,7 @@
 -- What take-in, `froze` and the search for loose nodes answer. Assumes nothing.
 use Rattle.std.specs.Prelude.{ℕ, zero, suc, ◌+◌, ◌^◌, Bool, true, false, cond, not, ◌&&◌, List, [], ◌∷◌, ◌++◌, length, replicate, Some, None, Ok, Err, Option, Result, ◌==◌, nat_le, slice_index_or, slice_set}
+use Rattle.std.specs.List.{list_all}
 use Rattle.network.specs.Clauses.{in_order, owned}
-use Rattle.network.specs.Lists.{all_of}
 use Rattle.network.specs.Rows.{lower, no_value, two_values, some_row}
 use Rattle.image.specs.Faults.{fault, tested, ◌then◌}
 use Rattle.image.specs.Headers.{top, stated_count, headed, run}
@@ -20,8 +20,8 @@ rows_answer n ws = tested (nat_le (length (lower n (clauses ws))) 8) (fault 5 n)
 unfoldable pub node_answer : ℕ → List ℕ → Result ℕ Fault
 node_answer n ws =
     cond (whole ws) (Ok (length (clauses ws))) (Err (fault 2 n))
-    then (λ count. tested (all_of in_order (clauses ws)) (fault 3 n)
-    then (λ _. tested (all_of (owned n) (clauses ws)) (fault 4 n)
+    then (λ count. tested (list_all in_order (clauses ws)) (fault 3 n)
+    then (λ _. tested (list_all (owned n) (clauses ws)) (fault 4 n)
     then (λ _. rows_answer n ws
     then (λ _. Ok count))))
 

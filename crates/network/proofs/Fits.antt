@@ -1,6 +1,6 @@
 -- The walks of `fits` and `part_of` on any lists, and what their answers say of clauses in order. Assumes nothing.
 use Rattle.std.proofs.Common.{◌≡◌, ℕ, ◌<◌, ◌≤◌, Bool, true, false, eqb, ltb, ◌⊎◌, ◌↔◌, List, [], ◌∷◌, length, Some, None, Option, refl, ap, subst, inl, inr, arith}
-use Rattle.std.proofs.lemmas.Bool.{both_ways, cond_both, eqb-true, eqb-false, ltb-true, ltb-false}
+use Rattle.std.proofs.lemmas.Bool.{false_from_ne_true, both_ways, cond_both, eqb-true, eqb-false, ltb-true, ltb-false}
 use Rattle.network.specs.Assignments.{node}
 use Rattle.network.specs.Lists.{In}
 use Rattle.network.specs.Clauses.{Rising, Ordered, Subsumes}
@@ -146,9 +146,5 @@ part_length (d ∷ D) (c ∷ C) =
     cond_both (eqb c d) (part_of C D) _ (λ b. b ≡ true → length (c ∷ C) ≤ length (d ∷ D)) (λ _ e. omega (arith, part_length D C e))
     (λ _. cond_both (ltb d c) (part_of (c ∷ C) D) false (λ b. b ≡ true → length (c ∷ C) ≤ length (d ∷ D)) (λ _ e. omega (arith, part_length D (c ∷ C) e)) (λ _ e. absurd (both_ways false refl e)))
 
-pub not_true : (b : Bool) → (b ≡ true → ⊥) → b ≡ false
-not_true true h = absurd (h refl)
-not_true false h = refl
-
 pub longer_no_part : (C D : List ℕ) → length D < length C → part_of C D ≡ false
-longer_no_part C D h = not_true (part_of C D) (λ e. omega (arith, part_length D C e))
+longer_no_part C D h = false_from_ne_true (part_of C D) (λ e. omega (arith, part_length D C e))

@@ -32,10 +32,7 @@ module _ (own new : Network)
   to_new k σ s j l = all_from (holds σ) (new j) (λ C i. sound j C i σ (λ n m. s n (omega arith)))
 
   pub same_from_follows : Same (level own) (level new)
-  same_from_follows k σ s = (
-    (λ t. to_new (suc k) σ (below_more (level own) k σ s t) k (omega arith)),
-    λ t. all_from (holds σ) (own k) (λ C i. complete k C i σ (below_more (level new) k σ (to_new k σ s) t)),
-  )
+  same_from_follows k σ s = grind (arith, to_new (suc k) σ, below_more (level own) k σ s, all_from (holds σ) (own k), below_more (level new) k σ (to_new k σ s), to_new k σ s)
 
 -- a network changed so that each clause added follows from the old clauses, and each clause taken away has all of a clause
 -- that is left, at its node or below: it says the same at each level

@@ -69,9 +69,7 @@ without_in x l C i = let k = kept_in (λ k. not (eqb k x)) l C i in (k.0, λ e. 
 pub ordered : (R : List ℕ) → Rising R → twice R ≡ false → Ordered R
 ordered [] r t = tt
 ordered (x ∷ []) r t = ((λ y i. absurd i), tt)
-ordered (x ∷ y ∷ R) (l, (m, r)) t =
-    let h = or_parts (eqb (node x) (node y)) (twice (y ∷ R)) t in
-    ((λ z i. grind (arith, nat_tests, h.0, l y (inl refl), m z)), ordered (y ∷ R) (m, r) h.1)
+ordered (x ∷ y ∷ R) (l, (m, r)) t = grind (arith, nat_tests, or_parts (eqb (node x) (node y)) (twice (y ∷ R)) t, ordered (y ∷ R) (m, r))
 
 pub clash_of : (R : List ℕ) → Rising R → twice R ≡ true → (l : ℕ) × In l R × In (opposite l) R
 clash_of [] r t = absurd (both_ways false refl t)
@@ -121,8 +119,7 @@ ordered_untwice (x ∷ y ∷ R) (h, o) = or_from (eqb (node x) (node y)) (twice 
 
 -- there is one resolvent, and none where there is a tautology
 resolvent_once : (x : ℕ) (C D R S : List ℕ) → Resolvent x C D R → Resolvent x C D S → R ≡ S
-resolvent_once x C D R S p q =
-    rising_same R S (ordered_rising R p.rising) (ordered_rising S q.rising) (λ l i. q.all l (p.only l i)) (λ l i. p.all l (q.only l i))
+resolvent_once x C D R S p q = grind (arith, nat_tests, rising_same R S (ordered_rising R p.rising) (ordered_rising S q.rising), ordered_rising R p.rising, p.rising, ordered_rising S q.rising, q.rising, q.all, p.only, p.all, q.only)
 
 resolvent_tautology : (x : ℕ) (C D R : List ℕ) → Resolvent x C D R → Tautology x C D → ⊥
 resolvent_tautology x C D R p t =
@@ -133,7 +130,7 @@ module _ (x : ℕ) (C D : List ℕ) (oC : Ordered C) (oD : Ordered D) where
   resolvent_exactly R = go (resolve x C D) (resolve_is x C D (ordered_rising C oC) (ordered_rising D oD))
     where
       go : (r : Option (List ℕ)) → Resolved x C D r → (r ≡ Some R) ↔ Resolvent x C D R
-      go None t = ((λ e. let z : ◌≡◌ {A = ℕ} 0 1 = cc in absurd (omega arith)), λ p. absurd (resolvent_tautology x C D R p t))
+      go None t = ((λ e. cc), λ p. absurd (resolvent_tautology x C D R p t))
       go (Some S) p = ((λ e. let q : S ≡ R = cc in subst (Resolvent x C D) q p), λ q. ap Some (resolvent_once x C D S R p q))
 
   pub tautology_exactly : (resolve x C D ≡ None) ↔ Tautology x C D
@@ -141,7 +138,7 @@ module _ (x : ℕ) (C D : List ℕ) (oC : Ordered C) (oD : Ordered D) where
     where
       go : (r : Option (List ℕ)) → Resolved x C D r → (r ≡ None) ↔ Tautology x C D
       go None t = ((λ e. t), λ q. refl)
-      go (Some S) p = ((λ e. let z : ◌≡◌ {A = ℕ} 0 1 = cc in absurd (omega arith)), λ t. absurd (resolvent_tautology x C D S p t))
+      go (Some S) p = ((λ e. cc), λ t. absurd (resolvent_tautology x C D S p t))
 
 module _ (C D : List ℕ) (oC : Ordered C) (oD : Ordered D) where
   -- where C strengthens D, the resolvent is D without the opposite literal

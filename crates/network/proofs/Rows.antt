@@ -1,13 +1,13 @@
 -- From rows to assignments. Assumes nothing.
 use Rattle.std.proofs.Common.{◌≡◌, ℕ, zero, suc, ◌+◌, ◌*◌, ◌/◌, ◌%◌, ◌^◌, ◌<◌, ◌≤◌, Bool, true, false, cond, not, ◌&&◌, ◌||◌, eqb, ◌⊎◌, ◌↔◌, List, [], ◌∷◌, ◌++◌, length, sym, refl, ap, ◌∙◌, subst, inl, inr, ⊎_elim, add-one, arith}
-use Rattle.std.proofs.lemmas.Bool.{both_ways, and_parts, and_from, cond-true, cond-false, cond_both, eq-eqb, eqb-true, eqb-false, cases_Bool}
+use Rattle.std.proofs.lemmas.Bool.{not-true, both_ways, and_parts, and_from, cond-true, cond-false, cond_both, eq-eqb, eqb-true, eqb-false, cases_Bool}
 use Rattle.std.proofs.lemmas.Bool.Decides.{nat_tests}
 use Rattle.network.specs.Clauses.{has}
 use Rattle.network.specs.Assignments.{Assignment, node, put, holds, sat, AgreeOn}
-use Rattle.network.specs.Lists.{In, all_of}
-use Rattle.network.proofs.Lists.{has_in, in_left, in_right, in_cases, any_from}
+use Rattle.network.specs.Lists.{In}
+use Rattle.network.proofs.Lists.{has_in, in_left, in_right, in_cases, any_from, all_same, fold_keeps, fold_gets}
 use Rattle.network.proofs.Holding.{holds_agree}
-use Rattle.network.specs.Rows.{noted, noted_in, noted_all, lower, row, allows, no_value, two_values, some_row, clashes, is_loose, Narrow, Valued, Tight, Clash, Loose}
+use Rattle.network.specs.Rows.{noted, noted_in, lower, row, allows, no_value, two_values, some_row, clashes, is_loose, Narrow, Valued, Tight, Clash, Loose}
 
 -- k is accounted for: 0, n or one of xs
 abbrev pub Known : ℕ → List ℕ → ℕ → Type 0
@@ -17,37 +17,20 @@ pub noted_keeps : (n k x : ℕ) (xs : List ℕ) → In x xs → In x (noted n xs
 noted_keeps n k x xs i = cond_both (eqb k 0 || (eqb k n || has k xs)) xs (xs ++ (k ∷ [])) (λ (z : List ℕ). In x z) (λ _. i) (λ _. in_left x xs (k ∷ []) i)
 
 pub noted_gets : (n k : ℕ) (xs : List ℕ) → Known n (noted n xs k) k
-noted_gets n k xs =
-    cond_both (eqb k 0 || (eqb k n || has k xs)) xs (xs ++ (k ∷ [])) (λ (z : List ℕ). Known n z k) (λ e. grind (arith, nat_tests, has_in k xs)) (λ _. inr (inr (in_right k xs (k ∷ []) (inl refl))))
+noted_gets n k xs = grind (arith, nat_tests, has_in k xs, in_right k xs (k ∷ []))
 
-pub noted_in_keeps : (n x : ℕ) (xs C : List ℕ) → In x xs → In x (noted_in n xs C)
-noted_in_keeps n x xs [] i = i
-noted_in_keeps n x xs (l ∷ C) i = noted_in_keeps n x (noted n xs (node l)) C (noted_keeps n (node l) x xs i)
+known_kept : (n m k : ℕ) (xs : List ℕ) → Known n xs k → Known n (noted n xs m) k
+known_kept n m k xs h = ⊎_elim inl (λ r. inr (⊎_elim inl (λ i. inr (noted_keeps n m k xs i)) r)) h
 
-known_more : (n k : ℕ) (xs ys : List ℕ) → ((x : ℕ) → In x xs → In x ys) → Known n xs k → Known n ys k
-known_more n k xs ys h (inl e) = inl e
-known_more n k xs ys h (inr (inl e)) = inr (inl e)
-known_more n k xs ys h (inr (inr i)) = inr (inr (h k i))
+noted_in_known : (n k : ℕ) (xs C : List ℕ) → Known n xs k → Known n (noted_in n xs C) k
+noted_in_known n k xs C h = fold_keeps (λ ys. Known n ys k) (λ ys l. noted n ys (node l)) C (λ l i ys. known_kept n (node l) k ys) xs h
 
-pub noted_in_gets : (n : ℕ) (xs C : List ℕ) (l : ℕ) → In l C → Known n (noted_in n xs C) (node l)
-noted_in_gets n xs [] l i = absurd i
-noted_in_gets n xs (m ∷ C) l (inl e) =
-    subst (λ (z : ℕ). Known n (noted_in n (noted n xs (node m)) C) (node z)) (sym e) (known_more n (node m) (noted n xs (node m)) _ (λ x i. noted_in_keeps n x (noted n xs (node m)) C i) (noted_gets n (node m) xs))
-noted_in_gets n xs (m ∷ C) l (inr i) = noted_in_gets n (noted n xs (node m)) C l i
-
-pub noted_all_keeps : (n x : ℕ) (xs : List ℕ) (Cs : List (List ℕ)) → In x xs → In x (noted_all n xs Cs)
-noted_all_keeps n x xs [] i = i
-noted_all_keeps n x xs (C ∷ Cs) i = noted_all_keeps n x (noted_in n xs C) Cs (noted_in_keeps n x xs C i)
-
-pub noted_all_gets : (n : ℕ) (xs : List ℕ) (Cs : List (List ℕ)) (C : List ℕ) (l : ℕ) → In C Cs → In l C → Known n (noted_all n xs Cs) (node l)
-noted_all_gets n xs [] C l i j = absurd i
-noted_all_gets n xs (D ∷ Cs) C l (inl e) j =
-    known_more n (node l) (noted_in n xs D) _ (λ x i. noted_all_keeps n x (noted_in n xs D) Cs i) (noted_in_gets n xs D l (subst (λ (Z : List ℕ). In l Z) e j))
-noted_all_gets n xs (D ∷ Cs) C l (inr i) j = noted_all_gets n (noted_in n xs D) Cs C l i j
+noted_in_gets : (n : ℕ) (xs C : List ℕ) (l : ℕ) → In l C → Known n (noted_in n xs C) (node l)
+noted_in_gets n xs C l i = fold_gets (λ ys. Known n ys (node l)) (λ ys m. noted n ys (node m)) C l i (λ m ys. known_kept n (node m) (node l) ys) (noted_gets n (node l)) xs
 
 -- each node that a clause of n names is 0, n or one of the lower ones
 pub lower_covers : (n : ℕ) (Cs : List (List ℕ)) (C : List ℕ) → In C Cs → (l : ℕ) → In l C → Known n (lower n Cs) (node l)
-lower_covers n Cs C i l j = noted_all_gets n [] Cs C l i j
+lower_covers n Cs C i l j = fold_gets (λ ys. Known n ys (node l)) (noted_in n) Cs C i (λ D ys. noted_in_known n (node l) ys D) (λ ys. noted_in_gets n ys C l j) []
 
 -- the number of the row that σ gives the nodes xs
 abbrev pub code : List ℕ → Assignment → ℕ
@@ -60,10 +43,7 @@ bit_small false = omega arith
 
 pub code_small : (xs : List ℕ) (σ : Assignment) → code xs σ < 2 ^ length xs
 code_small [] σ = omega arith
-code_small (x ∷ xs) σ = omega (arith, bit_small (σ x), code_small xs σ, pow_more (length xs))
-  where
-    pow_more : (n : ℕ) → 2 ^ suc n ≡ 2 * 2 ^ n
-    pow_more n = omega arith
+code_small (x ∷ xs) σ = grind (arith, nat_tests, bit_small (σ x), code_small xs σ)
 
 bit_of : (b : Bool) (c : ℕ) → eqb ((cond b 1 0 + 2 * c) % 2) 1 ≡ b
 bit_of true c = eq-eqb _ _ (omega arith)
@@ -74,36 +54,20 @@ rest_of true c = omega arith
 rest_of false c = omega arith
 
 pub row_step : (x : ℕ) (xs : List ℕ) (σ : Assignment) (k : ℕ) → row (x ∷ xs) (code (x ∷ xs) σ) k ≡ cond (eqb k x) (σ x) (row xs (code xs σ) k)
-row_step x xs σ k =
-    ap (λ (b : Bool). cond (eqb k x) b (row xs (code (x ∷ xs) σ / 2) k)) (bit_of (σ x) (code xs σ)) ∙ ap (λ (r : ℕ). cond (eqb k x) (σ x) (row xs r k)) (rest_of (σ x) (code xs σ))
+row_step x xs σ k = grind (arith, nat_tests, bit_of (σ x) (code xs σ), rest_of (σ x) (code xs σ))
 
 pub row_code : (xs : List ℕ) (σ : Assignment) (k : ℕ) → In k xs → row xs (code xs σ) k ≡ σ k
 row_code [] σ k i = absurd i
-row_code (x ∷ xs) σ k i =
-    row_step x xs σ k ∙ cond_both (eqb k x) (σ x) (row xs (code xs σ) k) (λ (b : Bool). b ≡ σ k) (λ e. ap σ (sym (eqb-true k x e))) (λ e. row_code xs σ k (later k x xs i (eqb-false k x e)))
-  where
-    later : (k x : ℕ) (xs : List ℕ) → In k (x ∷ xs) → (k ≡ x → ⊥) → In k xs
-    later k x xs (inl e) n = absurd (n e)
-    later k x xs (inr i) n = i
+row_code (x ∷ xs) σ k i = grind (arith, nat_tests, row_step x xs σ k, eqb-true k x, row_code xs σ k, eqb-false k x)
 
 pub row_false : (xs : List ℕ) (σ : Assignment) (k : ℕ) → σ k ≡ false → row xs (code xs σ) k ≡ false
 row_false [] σ k f = refl
-row_false (x ∷ xs) σ k f =
-    row_step x xs σ k ∙ cond_both (eqb k x) (σ x) (row xs (code xs σ) k) (λ (b : Bool). b ≡ false) (λ e. ap σ (sym (eqb-true k x e)) ∙ f) (λ e. row_false xs σ k f)
+row_false (x ∷ xs) σ k f = grind (arith, nat_tests, row_step x xs σ k, eqb-true k x, row_false xs σ k f)
 
 -- the row says what σ says, of each node that is accounted for
 pub row_like : (n : ℕ) (xs : List ℕ) (σ : Assignment) (b : Bool) (k : ℕ) → σ 0 ≡ false → Known n xs k → put (row xs (code xs σ)) n b k ≡ put σ n b k
 unfolding put
-row_like n xs σ b k z h = cond_both (eqb k n) b (row xs (code xs σ) k) (λ (x : Bool). x ≡ cond (eqb k n) b (σ k)) (λ e. sym (cond-true _ _ _ e)) (λ e. same h (eqb-false k n e) ∙ sym (cond-false _ _ _ e))
-  where
-    same : Known n xs k → (k ≡ n → ⊥) → row xs (code xs σ) k ≡ σ k
-    same (inl e) o = row_false xs σ k (ap σ e ∙ z) ∙ sym (ap σ e ∙ z)
-    same (inr (inl e)) o = absurd (o e)
-    same (inr (inr i)) o = row_code xs σ k i
-
-all_same : {X : Type 0} (p q : X → Bool) (xs : List X) → ((x : X) → In x xs → p x ≡ q x) → all_of p xs ≡ all_of q xs
-all_same p q [] h = refl
-all_same p q (y ∷ xs) h = grind (arith, h y (inl refl), all_same p q xs (λ x i. h x (inr i)))
+row_like n xs σ b k z h = grind (arith, nat_tests, cond-true, eqb-false k n, cond-false, row_false xs σ k, row_code xs σ k)
 
 pub sat_agree : (σ τ : Assignment) (Cs : List (List ℕ)) → ((C : List ℕ) → In C Cs → AgreeOn C σ τ) → sat σ Cs ≡ sat τ Cs
 sat_agree σ τ Cs h = all_same (holds σ) (holds τ) Cs (λ C i. holds_agree σ τ C (h C i))
@@ -133,7 +97,7 @@ none_at p (suc k) r h l = grind (arith, none_at p k r, nat_tests, ap p)
 
 pub some_which : (p : ℕ → Bool) (k : ℕ) → some_row p k ≡ true → (r : ℕ) × (r < k) × (p r ≡ true)
 unfolding some_row
-some_which p zero h = absurd (let z : ◌≡◌ {A = ℕ} 0 1 = cc in omega arith)
+some_which p zero h = cc
 some_which p (suc k) h = ⊎_elim (λ (t : p k ≡ true). (k, omega arith, t)) (λ (f : p k ≡ false). let (r, l, t) = some_which p k (ap (λ (b : Bool). b || some_row p k) (sym f) ∙ h) in (r, omega arith, t)) (cases_Bool (p k))
 
 -- what holds of each node that the clauses name besides 0 and n holds of each that is noted
@@ -153,15 +117,10 @@ module _ (P : ℕ → Type 0) (n : ℕ) where
       added x e (inr q) = absurd q
 
   noted_in_only : (C xs : List ℕ) → Each xs → Named C → Each (noted_in n xs C)
-  noted_in_only [] xs h p = h
-  noted_in_only (l ∷ C) xs h p = noted_in_only C (noted n xs (node l)) (noted_only (node l) xs h (p l (inl refl))) (λ m i. p m (inr i))
-
-  noted_all_only : (Cs : List (List ℕ)) (xs : List ℕ) → Each xs → ((C : List ℕ) → In C Cs → Named C) → Each (noted_all n xs Cs)
-  noted_all_only [] xs h p = h
-  noted_all_only (C ∷ Cs) xs h p = noted_all_only Cs (noted_in n xs C) (noted_in_only C xs h (p C (inl refl))) (λ D i. p D (inr i))
+  noted_in_only C xs h p = fold_keeps Each (λ ys l. noted n ys (node l)) C (λ l i ys e. noted_only (node l) ys e (p l i)) xs h
 
   pub lower_only : (Cs : List (List ℕ)) → ((C : List ℕ) → In C Cs → Named C) → Each (lower n Cs)
-  lower_only Cs p = noted_all_only Cs [] (λ x i. absurd i) p
+  lower_only Cs p = fold_keeps Each (noted_in n) Cs (λ C i ys e. noted_in_only C ys e (p C i)) [] (λ x i. absurd i)
 
 -- each once
 abbrev pub Distinct : List ℕ → Type 0
@@ -170,27 +129,13 @@ Distinct (x ∷ xs) = (In x xs → ⊥) × Distinct xs
 
 distinct_push : (xs : List ℕ) (k : ℕ) → Distinct xs → (In k xs → ⊥) → Distinct (xs ++ (k ∷ []))
 distinct_push [] k d n = ((λ i. i), tt)
-distinct_push (x ∷ xs) k (a, d) n =
-    ((λ i. ⊎_elim a (λ j. single j) (in_cases x xs (k ∷ []) i)), distinct_push xs k d (λ i. n (inr i)))
-  where
-    single : In x (k ∷ []) → ⊥
-    single (inl e) = n (inl (sym e))
-    single (inr q) = q
+distinct_push (x ∷ xs) k (a, d) n = grind (arith, nat_tests, in_cases x xs (k ∷ []), distinct_push xs k d)
 
 noted_distinct : (n k : ℕ) (xs : List ℕ) → Distinct xs → Distinct (noted n xs k)
-noted_distinct n k xs d =
-    cond_both (eqb k 0 || (eqb k n || has k xs)) xs (xs ++ (k ∷ [])) Distinct (λ _. d) (λ e. distinct_push xs k d (λ i. out (any_from (eqb k) xs k i (eq-eqb k k refl)) e))
-  where
-    out : has k xs ≡ true → (eqb k 0 || (eqb k n || has k xs)) ≡ false → ⊥
-    out t e = grind (arith, t, e)
+noted_distinct n k xs d = grind (arith, nat_tests, distinct_push xs k d, any_from (eqb k) xs k, eq-eqb k k)
 
 noted_in_distinct : (n : ℕ) (C xs : List ℕ) → Distinct xs → Distinct (noted_in n xs C)
-noted_in_distinct n [] xs d = d
-noted_in_distinct n (l ∷ C) xs d = noted_in_distinct n C (noted n xs (node l)) (noted_distinct n (node l) xs d)
-
-noted_all_distinct : (n : ℕ) (Cs : List (List ℕ)) (xs : List ℕ) → Distinct xs → Distinct (noted_all n xs Cs)
-noted_all_distinct n [] xs d = d
-noted_all_distinct n (C ∷ Cs) xs d = noted_all_distinct n Cs (noted_in n xs C) (noted_in_distinct n C xs d)
+noted_in_distinct n C xs d = fold_keeps Distinct (λ ys l. noted n ys (node l)) C (λ l i ys. noted_distinct n (node l) ys) xs d
 
 -- as many places as different elements
 taken_out : (y : ℕ) (ys : List ℕ) → In y ys → (zs : List ℕ) × (length ys ≡ suc (length zs)) × ((x : ℕ) → In x ys → (x ≡ y → ⊥) → In x zs)
@@ -208,18 +153,15 @@ taken_out y (x ∷ ys) (inr i) = let (zs, l, h) = taken_out y ys i in (x ∷ zs,
 
 pub pigeons : (xs ys : List ℕ) → Distinct xs → ((x : ℕ) → In x xs → In x ys) → length xs ≤ length ys
 pigeons [] ys d h = omega arith
-pigeons (x ∷ xs) ys (a, d) h =
-    let (zs, l, k) = taken_out x ys (h x (inl refl)) in
-    omega (arith, l, pigeons xs zs d (λ z i. k z (h z (inr i)) (λ e. a (subst (λ (w : ℕ). In w xs) e i))))
+pigeons (x ∷ xs) ys (a, d) h = grind (arith, nat_tests, taken_out x ys, pigeons xs)
 
 pub lower_distinct : (n : ℕ) (Cs : List (List ℕ)) → Distinct (lower n Cs)
-lower_distinct n Cs = noted_all_distinct n Cs [] tt
+lower_distinct n Cs = fold_keeps Distinct (noted_in n) Cs (λ C i ys. noted_in_distinct n C ys) [] tt
 
 -- a node that is not among xs is false in every row
 pub row_out : (xs : List ℕ) (r k : ℕ) → (In k xs → ⊥) → row xs r k ≡ false
 row_out [] r k n = refl
-row_out (x ∷ xs) r k n =
-    cond_both (eqb k x) (eqb (r % 2) 1) (row xs (r / 2) k) (λ (b : Bool). b ≡ false) (λ e. absurd (n (inl (eqb-true k x e)))) (λ e. row_out xs (r / 2) k (λ i. n (inr i)))
+row_out (x ∷ xs) r k n = grind (arith, nat_tests, eqb-true k x, row_out xs (r / 2) k)
 
 pub lower_zero : (n : ℕ) (Cs : List (List ℕ)) → In 0 (lower n Cs) → ⊥
 lower_zero n Cs i = lower_only (λ (x : ℕ). x ≡ 0 → ⊥) n Cs (λ C j l m a b. a) 0 i refl
@@ -259,13 +201,9 @@ module _ (n : ℕ) (Cs : List (List ℕ)) where
       let (r, l, t) = some_which (no_value (lower n Cs) n Cs) _ h in
       (row (lower n Cs) r, row_out (lower n Cs) r 0 (lower_zero n Cs), λ b. neither r b (and_parts (not (allows (lower n Cs) n Cs false r)) (not (allows (lower n Cs) n Cs true r)) t))
     where
-      off : (b : Bool) → not b ≡ true → b ≡ false
-      off true e = sym e
-      off false e = refl
-
       neither : (r : ℕ) (b : Bool) → (not (allows (lower n Cs) n Cs false r) ≡ true) × (not (allows (lower n Cs) n Cs true r) ≡ true) → sat (put (row (lower n Cs) r) n b) Cs ≡ false
-      neither r true (f, t) = off _ t
-      neither r false (f, t) = off _ f
+      neither r true (f, t) = not-true _ t
+      neither r false (f, t) = not-true _ f
 
   pub loose_from : some_row (two_values (lower n Cs) n Cs) (2 ^ length (lower n Cs)) ≡ true → Loose n Cs
   loose_from h =

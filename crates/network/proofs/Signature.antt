@@ -1,5 +1,6 @@
 -- The bits of a signature, and what two signatures tell of their clauses. Assumes nothing.
-use Rattle.std.proofs.Common.{◌≡◌, ℕ, zero, suc, ◌+◌, ◌-◌, ◌*◌, ◌/◌, ◌%◌, ◌^◌, ◌<◌, ◌≤◌, min, max, Bool, true, false, cond, not, ◌&&◌, ◌||◌, eqb, ltb, ◌⊎◌, ◌↔◌, List, [], ◌∷◌, sym, refl, ap, ◌∙◌, subst, inl, inr, ⊎_elim, one-mul, mul-div_cancel, arith}
+use Rattle.std.proofs.Common.{◌≡◌, ℕ, zero, suc, ◌+◌, ◌-◌, ◌*◌, ◌/◌, ◌%◌, ◌^◌, ◌<◌, ◌≤◌, min, max, Bool, true, false, cond, not, ◌&&◌, ◌||◌, eqb, ltb, ◌⊎◌, ◌↔◌, List, [], ◌∷◌, sym, refl, ap, ◌∙◌, subst, inl, inr, ⊎_elim, one-mul, mul-div_cancel, arith, fold}
+use Rattle.std.specs.List.{list_any}
 use native.Mathlib.Nat.{div-eq_of_lt}
 use lib.Arith.{bin_ind}
 use lib.Bits.{bit_and, bit_or, and_step, or_step, or_shr, and_self}
@@ -7,9 +8,9 @@ use lib.Count.{ones, ones_step, ones_cat}
 use Rattle.std.proofs.lemmas.Nat.{pow_pos, pow-add, pow_below, shr-shr}
 use Rattle.std.proofs.lemmas.Bool.{eq-eqb, ne_eqb, cases_order, cases_eq, cases_lt, lt-ltb, le-ltb, cond-true, cond-false, and_from}
 use Rattle.std.proofs.lemmas.Bool.Decides.{nat_tests}
-use Rattle.network.specs.Lists.{In, any_of}
+use Rattle.network.specs.Lists.{In}
 use Rattle.network.specs.Clauses.{Subsumes}
-use Rattle.network.specs.Signature.{place, bit, low, high, added, signature, bit_at, Covers, within, missing}
+use Rattle.network.specs.Signature.{place, bit, low, high, signature, bit_at, Covers, within, missing}
 use Rattle.network.proofs.Lists.{any_from, any_some}
 
 -- ---- bits
@@ -72,10 +73,7 @@ ones_pow k = ap ones (omega arith) ∙ ones_cat k 1 0 (pow_pos k)
 
 -- so that at most one bit is missing
 at_most_one : (k a b : ℕ) → ((j : ℕ) → (j ≡ k → ⊥) → bit a j ≤ bit b j) → ones (a - bit_and a b) ≤ 1
-at_most_one k a b h = ⊎_elim (λ e. le 0 (omega arith) (omega (arith, ones_zero))) (λ e. le (2 ^ k) (omega arith) (omega (arith, ones_pow k))) (but_one_bit k a b h)
-  where
-    le : (m : ℕ) → a - bit_and a b ≡ m → ones m ≤ 1 → ones (a - bit_and a b) ≤ 1
-    le m e q = subst (λ n. ones n ≤ 1) (sym e) q
+at_most_one k a b h = grind (arith, nat_tests, ones_zero, ones_pow k, but_one_bit k a b h)
 
 none_missing : (a b : ℕ) → ((j : ℕ) → bit a j ≤ bit b j) → ones (a - bit_and a b) ≡ 0
 none_missing a b h = ap ones {y = 0} (let e = and_from_bits a b h in omega arith) ∙ ones_zero
@@ -115,13 +113,24 @@ or_max false true = refl
 or_max false false = refl
 
 module _ (f : ℕ → ℕ → ℕ) (p : ℕ → ℕ → Bool) (each : (n l j : ℕ) → bit (f n l) j ≡ max (bit n j) (cond (p j l) 1 0)) where
-  bit_from : (n : ℕ) (C : List ℕ) (j : ℕ) → bit (added f n C) j ≡ max (bit n j) (cond (any_of (p j) C) 1 0)
+  bit_from : (n : ℕ) (C : List ℕ) (j : ℕ) → bit (fold f n C) j ≡ max (bit n j) (cond (list_any (p j) C) 1 0)
   bit_from n [] j = omega arith
   bit_from n (l ∷ C) j =
-      bit_from (f n l) C j ∙ ap (λ b. max b (cond (any_of (p j) C) 1 0)) (each n l j) ∙ (omega (arith, or_max (p j l) (any_of (p j) C)))
+      bit_from (f n l) C j ∙ ap (λ b. max b (cond (list_any (p j) C) 1 0)) (each n l j) ∙ (omega (arith, or_max (p j l) (list_any (p j) C)))
 
-  bit_added : (C : List ℕ) (j : ℕ) → bit (added f 0 C) j ≡ cond (any_of (p j) C) 1 0
-  bit_added C j = bit_from 0 C j ∙ ap (λ b. max b (cond (any_of (p j) C) 1 0)) (bit_zero j) ∙ omega arith
+  bit_added : (C : List ℕ) (j : ℕ) → bit (fold f 0 C) j ≡ cond (list_any (p j) C) 1 0
+  bit_added C j = bit_from 0 C j ∙ ap (λ b. max b (cond (list_any (p j) C) 1 0)) (bit_zero j) ∙ omega arith
+
+  -- each bit that is set is that of an element that passes, and each of those has its bit
+  bit_some : (C : List ℕ) (j : ℕ) → (bit (fold f 0 C) j ≡ 0) ⊎ ((l : ℕ) × In l C × (p j l ≡ true) × (bit (fold f 0 C) j ≡ 1))
+  bit_some C j = go (list_any (p j) C) refl
+    where
+      go : (b : Bool) → list_any (p j) C ≡ b → (bit (fold f 0 C) j ≡ 0) ⊎ ((l : ℕ) × In l C × (p j l ≡ true) × (bit (fold f 0 C) j ≡ 1))
+      go false e = inl (bit_added C j ∙ ap (λ b. cond b 1 0) e)
+      go true e = let (l, i, t) = any_some (p j) C e in inr (l, i, t, bit_added C j ∙ ap (λ b. cond b 1 0) e)
+
+  bit_has : (C : List ℕ) (j l : ℕ) → In l C → p j l ≡ true → bit (fold f 0 C) j ≡ 1
+  bit_has C j l i t = bit_added C j ∙ ap (λ b. cond b 1 0) (any_from (p j) C l i t)
 
 -- ---- the two halves
 
@@ -132,40 +141,24 @@ abbrev in_high : ℕ → ℕ → Bool
 in_high j l = not (ltb (place l) 64) && eqb (place l - 64) j
 
 bit_low : (n l j : ℕ) → bit (low n l) j ≡ max (bit n j) (cond (in_low j l) 1 0)
-bit_low n l j = pick (ltb (place l) 64)
-  where
-    pick : (t : Bool) → bit (cond t (bit_or n (2 ^ place l)) n) j ≡ max (bit n j) (cond (t && eqb (place l) j) 1 0)
-    pick true = bit_of_or n (2 ^ place l) j ∙ ap (max (bit n j)) (bit_pow (place l) j)
-    pick false = omega arith
+bit_low n l j = grind (arith, nat_tests, place l, bit_of_or n (2 ^ place l) j, bit_pow (place l) j)
 
 bit_high : (n l j : ℕ) → bit (high n l) j ≡ max (bit n j) (cond (in_high j l) 1 0)
-bit_high n l j = pick (ltb (place l) 64)
-  where
-    pick : (t : Bool) → bit (cond t n (bit_or n (2 ^ (place l - 64)))) j ≡ max (bit n j) (cond (not t && eqb (place l - 64) j) 1 0)
-    pick true = omega arith
-    pick false = bit_of_or n (2 ^ (place l - 64)) j ∙ ap (max (bit n j)) (bit_pow (place l - 64) j)
+bit_high n l j = grind (arith, nat_tests, place l, bit_of_or n (2 ^ (place l - 64)) j, bit_pow (place l - 64) j)
 
 -- each bit of a half is that of a literal
 low_some : (C : List ℕ) (j : ℕ) → (bit (signature C).0 j ≡ 0) ⊎ ((l : ℕ) × In l C × (place l < 64) × (place l ≡ j) × (bit (signature C).0 j ≡ 1))
-low_some C j = go (any_of (in_low j) C) refl
-  where
-    go : (b : Bool) → any_of (in_low j) C ≡ b → (bit (signature C).0 j ≡ 0) ⊎ ((l : ℕ) × In l C × (place l < 64) × (place l ≡ j) × (bit (signature C).0 j ≡ 1))
-    go false e = inl (bit_added low in_low bit_low C j ∙ ap (λ b. cond b 1 0) e)
-    go true e = let (l, i, t) = any_some (in_low j) C e in inr (l, i, grind (arith, nat_tests), grind (arith, nat_tests), bit_added low in_low bit_low C j ∙ ap (λ b. cond b 1 0) e)
+low_some C j = ⊎_elim inl (λ (l, i, t, b). inr (l, i, grind (arith, nat_tests), grind (arith, nat_tests), b)) (bit_some low in_low bit_low C j)
 
 high_some : (C : List ℕ) (j : ℕ) → (bit (signature C).1 j ≡ 0) ⊎ ((l : ℕ) × In l C × (64 ≤ place l) × (place l ≡ j + 64) × (bit (signature C).1 j ≡ 1))
-high_some C j = go (any_of (in_high j) C) refl
-  where
-    go : (b : Bool) → any_of (in_high j) C ≡ b → (bit (signature C).1 j ≡ 0) ⊎ ((l : ℕ) × In l C × (64 ≤ place l) × (place l ≡ j + 64) × (bit (signature C).1 j ≡ 1))
-    go false e = inl (bit_added high in_high bit_high C j ∙ ap (λ b. cond b 1 0) e)
-    go true e = let (l, i, t) = any_some (in_high j) C e in inr (l, i, grind (arith, nat_tests), grind (arith, nat_tests), bit_added high in_high bit_high C j ∙ ap (λ b. cond b 1 0) e)
+high_some C j = ⊎_elim inl (λ (l, i, t, b). inr (l, i, grind (arith, nat_tests), grind (arith, nat_tests), b)) (bit_some high in_high bit_high C j)
 
 -- and each literal has its bit
 low_has : (C : List ℕ) (l : ℕ) → In l C → place l < 64 → bit (signature C).0 (place l) ≡ 1
-low_has C l i h = bit_added low in_low bit_low C (place l) ∙ ap (λ b. cond b 1 0) (any_from (in_low (place l)) C l i (grind (arith, nat_tests)))
+low_has C l i h = bit_has low in_low bit_low C (place l) l i (grind (arith, nat_tests))
 
 high_has : (C : List ℕ) (l : ℕ) → In l C → 64 ≤ place l → bit (signature C).1 (place l - 64) ≡ 1
-high_has C l i h = bit_added high in_high bit_high C (place l - 64) ∙ ap (λ b. cond b 1 0) (any_from (in_high (place l - 64)) C l i (grind (arith, nat_tests)))
+high_has C l i h = bit_has high in_high bit_high C (place l - 64) l i (grind (arith, nat_tests))
 
 at_low : (s : ℕ × ℕ) (j : ℕ) → j < 64 → bit_at s j ≡ bit s.0 j
 at_low s j h = cond-true (ltb j 64) (bit s.0 j) (bit s.1 (j - 64)) (lt-ltb j 64 h)
@@ -191,9 +184,9 @@ bits_exactly C j h = (⊎_elim lower upper (cases_lt j 64), λ (l, i, e). subst 
 
 module _ (C D : List ℕ) (s : ℕ × ℕ) (c : Covers s D) where
   -- a literal of C whose bit s lacks does not stand in D
-  low_below : (j : ℕ) → ((l : ℕ) → In l C → place l ≡ j → In l D) → bit (signature C).0 j ≤ bit s.0 j
+  low_below : (j : ℕ) → ((l : ℕ) → In l C → place l < 64 → place l ≡ j → In l D) → bit (signature C).0 j ≤ bit s.0 j
   low_below j h = ⊎_elim (λ z. omega arith)
-      (λ (l, i, p, e, t). omega (arith, t, ap (bit s.0) e, at_low s (place l) p, c l (h l i e))) (low_some C j)
+      (λ (l, i, p, e, t). omega (arith, t, ap (bit s.0) e, at_low s (place l) p, c l (h l i p e))) (low_some C j)
 
   high_below : (j : ℕ) → ((l : ℕ) → In l C → place l ≡ j + 64 → In l D) → bit (signature C).1 j ≤ bit s.1 j
   high_below j h = ⊎_elim (λ z. omega arith)
@@ -201,22 +194,8 @@ module _ (C D : List ℕ) (s : ℕ × ℕ) (c : Covers s D) where
 
   -- where C is part of D, no bit is missing
   pub part_within : Subsumes C D → within (signature C) s ≡ true
-  part_within h =
-      and_from (eqb (bit_and (signature C).0 s.0) (signature C).0) (eqb (bit_and (signature C).1 s.1) (signature C).1)
-      (eq-eqb _ _ (and_from_bits (signature C).0 s.0 (λ j. low_below j (λ l i e. h l i))))
-      (eq-eqb _ _ (and_from_bits (signature C).1 s.1 (λ j. high_below j (λ l i e. h l i))))
+  part_within h = grind (arith, nat_tests, and_from (eqb (bit_and (signature C).0 s.0) (signature C).0) (eqb (bit_and (signature C).1 s.1) (signature C).1), eq-eqb, and_from_bits (signature C).0 s.0, low_below, and_from_bits (signature C).1 s.1, high_below)
 
   -- where each literal but those of one bit stands in D, at most one bit is missing
   pub but_one_missing : (k : ℕ) → ((l : ℕ) → In l C → (place l ≡ k → ⊥) → In l D) → missing (signature C) s ≤ 1
-  but_one_missing k h =
-      ⊎_elim
-      (λ p. omega (arith, at_most_one k (signature C).0 s.0 (λ j n. low_below j (λ l i e. h l i (λ q. n (omega arith)))), none_missing (signature C).1 s.1 (λ j. high_below j (λ l i e. h l i (λ q. omega arith)))))
-      (λ p. omega (arith, none_missing' k p h, at_most_one (k - 64) (signature C).1 s.1 (λ j n. high_below j (λ l i e. h l i (λ q. n (omega arith))))))
-      (cases_lt k 64)
-    where
-      none_missing' : (k : ℕ) → 64 ≤ k → ((l : ℕ) → In l C → (place l ≡ k → ⊥) → In l D) → ones ((signature C).0 - bit_and (signature C).0 s.0) ≡ 0
-      none_missing' k p h = none_missing (signature C).0 s.0 low_all
-        where
-          low_all : (j : ℕ) → bit (signature C).0 j ≤ bit s.0 j
-          low_all j = ⊎_elim (λ z. omega arith)
-              (λ (l, i, q, e, t). omega (arith, t, ap (bit s.0) e, at_low s (place l) q, c l (h l i (λ r. omega arith)))) (low_some C j)
+  but_one_missing k h = grind (arith, nat_tests, at_most_one k (signature C).0 s.0, low_below, none_missing (signature C).1 s.1, high_below, none_missing (signature C).0 s.0, at_most_one (k - 64) (signature C).1 s.1, cases_lt k 64)

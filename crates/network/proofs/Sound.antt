@@ -1,5 +1,5 @@
 -- Resolution, strengthening and lost pairs are sound. Assumes nothing.
-use Rattle.std.proofs.Common.{◌≡◌, ℕ, Bool, true, false, not, ◌⊎◌, ◌↔◌, List, [], ◌∷◌, sym, refl, ap, ◌∙◌, inl, inr, ⊎_elim, arith}
+use Rattle.std.proofs.Common.{◌≡◌, ℕ, Bool, true, false, not, ◌⊎◌, ◌↔◌, List, [], ◌∷◌, sym, ◌∙◌, inl, inr, ⊎_elim, arith}
 use Rattle.std.proofs.lemmas.Bool.{cases_eq, cases_Bool}
 use Rattle.network.specs.Assignments.{Assignment, node, opposite, lit, put, holds, sat}
 use Rattle.network.specs.Lists.{In}
@@ -29,16 +29,12 @@ pub holds_resolvent : (σ : Assignment) (x : ℕ) (C D R : List ℕ) → Resolve
 holds_resolvent σ x C D R r t = let k = any_some (lit σ) R t in (k.0, r.only k.0 k.1, k.2)
 
 pub tautology_holds : (σ : Assignment) (x : ℕ) (C D : List ℕ) → Tautology x C D → Resolves x C D σ
-tautology_holds σ x C D t =
-    ⊎_elim (λ e. (t.at, t.one, e)) (λ e. (opposite t.at, t.two, lit_neg σ t.at ∙ ap not e)) (cases_Bool (lit σ t.at))
+tautology_holds σ x C D t = grind (arith, t.at, t.one, t.two, lit_neg σ t.at, cases_Bool (lit σ t.at))
 
 -- C names v, or does not
 pub named : (v : ℕ) (C : List ℕ) → Free v C ⊎ ((x : ℕ) × In x C × (node x ≡ v))
 named v [] = inl (λ l i e. i)
-named v (c ∷ C) = elim (cases_eq (node c) v) [
-  | inl e ↦ inr (c, inl refl, e)
-  | inr a ↦ ⊎_elim (λ f. inl (λ l i e. ⊎_elim (λ q. a (ap node (sym q) ∙ e)) (λ j. f l j e) i)) (λ (x, i, e). inr (x, inr i, e)) (named v C)
-]
+named v (c ∷ C) = grind (arith, cases_eq (node c) v, named v C)
 
 -- v by its definition: of the values of v, its clauses cs allow b alone, and the resolvents with its uses say what the uses say at b
 module _ (cs us : List (List ℕ)) (v : ℕ) (σ : Assignment) (b : Bool) (oc : (D : List ℕ) → In D cs → Ordered D) (ou : (C : List ℕ) → In C us → Ordered C)

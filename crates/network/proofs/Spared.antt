@@ -1,23 +1,23 @@
 -- Where the signatures differ too much, the walks need not be made. Assumes nothing.
 use Rattle.std.proofs.Common.{◌≡◌, ℕ, ◌<◌, ◌≤◌, Bool, true, false, eqb, List, None, refl, ⊎_elim, arith}
-use Rattle.std.proofs.lemmas.Bool.{both_ways, eq-eqb}
-use Rattle.network.specs.Lists.{all_of}
+use Rattle.std.specs.List.{list_all}
+use Rattle.std.proofs.lemmas.Bool.{false_from_ne_true, both_ways, eq-eqb}
 use Rattle.network.specs.Clauses.{has}
 use Rattle.network.specs.Subsumption.{part_of, fits_but_one, fits}
 use Rattle.network.specs.Signature.{place, signature, Covers, within, missing}
 use Rattle.network.proofs.Lists.{any_from, all_at, all_not, has_in}
-use Rattle.network.proofs.Fits.{part_found, not_true, found_two, refused}
+use Rattle.network.proofs.Fits.{part_found, found_two, refused}
 use Rattle.network.proofs.Signature.{part_within, but_one_missing}
 
 module _ (C D : List ℕ) (s : ℕ × ℕ) (c : Covers s D) where
   -- a bit is missing, so C is no part of D
   pub part_spared : within (signature C) s ≡ false → part_of C D ≡ false
-  part_spared h = not_true (part_of C D) (λ e. both_ways (within (signature C) s) h (part_within C D s c (part_found D C e)))
+  part_spared h = false_from_ne_true (part_of C D) (λ e. both_ways (within (signature C) s) h (part_within C D s c (part_found D C e)))
 
   few_missing : (fits_but_one C D).0 ≡ true → missing (signature C) s ≤ 1
-  few_missing e = go (all_of (λ l. has l D) C) refl
+  few_missing e = go (list_all (λ l. has l D) C) refl
     where
-      go : (b : Bool) → all_of (λ l. has l D) C ≡ b → missing (signature C) s ≤ 1
+      go : (b : Bool) → list_all (λ l. has l D) C ≡ b → missing (signature C) s ≤ 1
       go true t = but_one_missing C D s c 0 (λ l i n. has_in l D (all_at (λ k. has k D) C t l i))
       go false t =
           let (l, i, h) = all_not (λ k. has k D) C t in

@@ -1,5 +1,6 @@
 -- The theorems, put together. Assumes nothing.
 use Rattle.std.proofs.Common.{◌≡◌, ℕ, Bool, true, false, not, eqb, List, sym, refl, subst}
+use Rattle.std.proofs.lemmas.List.Folds.{list_all-append, list_all-map}
 use Rattle.network.specs.Assignments.{Assignment, opposite, holds}
 use Rattle.network.specs.Clauses.{Ordered, without}
 use Rattle.network.specs.Resolution.{resolve, Resolved}
@@ -23,9 +24,9 @@ basics = record {
   flips = lit_neg;
   agree = holding.holds_agree;
   elsewhere = holding.holds_put;
-  append = λ σ. c.all_append (holds σ);
+  append = λ σ. list_all-append (holds σ);
   filter = λ σ. c.all_kept (holds σ);
-  mapped = λ σ f Cs. c.all_map f (holds σ) Cs;
+  mapped = λ σ f Cs. list_all-map (holds σ) f Cs;
 }
 
 pub rows_tell : RowsTell

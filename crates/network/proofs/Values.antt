@@ -1,5 +1,6 @@
 -- A clause under the known values. Assumes nothing.
-use Rattle.std.proofs.Common.{◌≡◌, ℕ, ◌<◌, Bool, true, false, ◌||◌, ◌⊎◌, ◌↔◌, List, [], ◌∷◌, Some, None, Option, sym, refl, ap, ◌∙◌, subst, inl, inr, ⊎_elim, arith}
+use Rattle.std.proofs.Common.{◌≡◌, ℕ, ◌<◌, Bool, true, false, ◌||◌, ◌⊎◌, ◌↔◌, List, [], ◌∷◌, Some, None, Option, sym, refl, ap, ◌∙◌, subst, inl, inr, ⊎_elim}
+use Rattle.std.proofs.lemmas.Bool.{or_right}
 use Rattle.network.specs.Assignments.{Assignment, node, lit, holds}
 use Rattle.network.specs.Lists.{In}
 use Rattle.network.specs.Clauses.{Ordered}
@@ -12,7 +13,7 @@ use Rattle.network.proofs.Resolution.{rising_same, ordered_untwice}
 
 lit_flipped : (σ : Assignment) (l : ℕ) (o : Option Bool) (b : Bool) → ((c : Bool) → o ≡ Some c → σ (node l) ≡ c) → flipped (sign l) o ≡ Some b → lit σ l ≡ b
 unfolding lit
-lit_flipped σ l None b h e = let z : ◌≡◌ {A = ℕ} 0 1 = cc in absurd (omega arith)
+lit_flipped σ l None b h e = cc
 lit_flipped σ l (Some c) b h e = let k = h c refl in rw k (cc)
 
 pub literal_is : (σ : Assignment) (V : Values) (l : ℕ) (b : Bool) → Obeys σ V → literal V l ≡ Some b → lit σ l ≡ b
@@ -24,11 +25,7 @@ literal_is σ V l b h = lit_flipped σ l (V (node l)) b (h (node l))
 keeps_step : (σ : Assignment) (l : ℕ) (o : Option Bool) (r : Option (List ℕ)) → ((b : Bool) → o ≡ Some b → lit σ l ≡ b) → left_holds σ (kept_literal o l r) ≡ (lit σ l || left_holds σ r)
 keeps_step σ l (Some true) r h = rw (h true refl)
 keeps_step σ l (Some false) r h = rw (h false refl)
-keeps_step σ l None None h = or_true (lit σ l)
-  where
-    or_true : (b : Bool) → true ≡ (b || true)
-    or_true true = refl
-    or_true false = refl
+keeps_step σ l None None h = sym (or_right (lit σ l) true refl)
 keeps_step σ l None (Some C) h = refl
 
 pub simplified_holds : (σ : Assignment) (V : Values) (C : List ℕ) → Obeys σ V → left_holds σ (simplified V C) ≡ holds σ C
@@ -50,10 +47,10 @@ short_step : (V : Values) (l : ℕ) (C : List ℕ) (o : Option Bool) (r : Option
 short_step V l C (Some true) r e h = (l, inl refl, e)
 short_step V l C (Some false) None e (y, i, t) = (y, inr i, t)
 short_step V l C (Some false) (Some R) e (n, f, g) =
-    (unsatisfied V l C (λ q. let z : true ≡ false = cc in grind (arith, z)) n, (λ k i. ⊎_elim (λ q. inl (ap (literal V) q ∙ e)) (f k) i), λ k i. (inr (g k i).0, (g k i).1))
+    (unsatisfied V l C (λ q. cc) n, (λ k i. ⊎_elim (λ q. inl (ap (literal V) q ∙ e)) (f k) i), λ k i. (inr (g k i).0, (g k i).1))
 short_step V l C None None e (y, i, t) = (y, inr i, t)
 short_step V l C None (Some R) e (n, f, g) = (
-  unsatisfied V l C (λ q. let z : ◌≡◌ {A = ℕ} 0 1 = cc in omega arith) n,
+  unsatisfied V l C (λ q. cc) n,
   (λ k i. ⊎_elim (λ q. inr (inl q)) (λ j. ⊎_elim inl (λ s. inr (inr s)) (f k j)) i),
   λ k i. ⊎_elim (λ q. (inl q, ap (literal V) q ∙ e)) (λ j. (inr (g k j).0, (g k j).1)) i,
 )
@@ -62,6 +59,9 @@ short : (V : Values) (C : List ℕ) → Short V C (simplified V C)
 unfolding simplified
 short V [] = ((λ (l, i, t). i), (λ l i. absurd i), λ l i. absurd i)
 short V (l ∷ C) = short_step V l C (literal V l) (simplified V C) refl (short V C)
+
+pub left_short : (V : Values) (C R : List ℕ) → simplified V C ≡ Some R → ((l : ℕ) → In l C → (literal V l ≡ Some false) ⊎ In l R) × ((l : ℕ) → In l R → In l C × (literal V l ≡ None))
+left_short V C R e = let (n, f, g) = subst (Short V C) e (short V C) in (f, g)
 
 -- ---- it stays in order
 
@@ -93,8 +93,8 @@ simplified_untwice V C R o e = ordered_untwice R (simplified_ordered V C R o e)
 left_once : (V : Values) (C R S : List ℕ) → LeftOf V C R → LeftOf V C S → R ≡ S
 left_once V C R S p q =
     rising_same R S (ordered_rising R p.rising) (ordered_rising S q.rising)
-    (λ l i. let (j, n) = p.only l i in ⊎_elim (λ e. let z : ◌≡◌ {A = ℕ} 0 1 = cc in absurd (omega arith)) (λ k. k) (q.all l j))
-    (λ l i. let (j, n) = q.only l i in ⊎_elim (λ e. let z : ◌≡◌ {A = ℕ} 0 1 = cc in absurd (omega arith)) (λ k. k) (p.all l j))
+    (λ l i. let (j, n) = p.only l i in ⊎_elim (λ e. cc) (λ k. k) (q.all l j))
+    (λ l i. let (j, n) = q.only l i in ⊎_elim (λ e. cc) (λ k. k) (p.all l j))
 
 module _ (V : Values) (C : List ℕ) where
   pub gone_exactly : (simplified V C ≡ None) ↔ Satisfied V C
@@ -102,13 +102,13 @@ module _ (V : Values) (C : List ℕ) where
     where
       go : (r : Option (List ℕ)) → Short V C r → (r ≡ None) ↔ Satisfied V C
       go None h = ((λ e. h), λ s. refl)
-      go (Some R) h = ((λ e. let z : ◌≡◌ {A = ℕ} 0 1 = cc in absurd (omega arith)), λ s. absurd (h.0 s))
+      go (Some R) h = ((λ e. cc), λ s. absurd (h.0 s))
 
   pub left_exactly : Ordered C → (R : List ℕ) → (simplified V C ≡ Some R) ↔ LeftOf V C R
   left_exactly o R = go (simplified V C) (short V C) (order V C o)
     where
       go : (r : Option (List ℕ)) → Short V C r → IfLeft Ordered r → (r ≡ Some R) ↔ LeftOf V C R
-      go None h p = ((λ e. let z : ◌≡◌ {A = ℕ} 0 1 = cc in absurd (omega arith)), λ s. absurd (s.untrue h))
+      go None h p = ((λ e. cc), λ s. absurd (s.untrue h))
       go (Some S) (n, f, g) p =
           let is : LeftOf V C S = record { rising = p; untrue = n; all = f; only = g } in
           ((λ e. let q : S ≡ R = cc in subst (LeftOf V C) q is), λ s. ap Some (left_once V C S R is s))

@@ -1,8 +1,9 @@
 -- Clauses as lists of literals: their order, their owner, and one as part of another.
 -- Assumes nothing.
 use Rattle.std.specs.Prelude.{ℕ, ◌<◌, Bool, true, not, ◌&&◌, List, [], ◌∷◌, length, filter, ◌==◌, nat_eq, nat_le, nat_lt}
+use Rattle.std.specs.List.{list_any}
 use Rattle.network.specs.Assignments.{node}
-use Rattle.network.specs.Lists.{In, any_of}
+use Rattle.network.specs.Lists.{In}
 
 -- literals rise strictly
 abbrev pub Rising : List ℕ → Type 0
@@ -48,7 +49,7 @@ owned n C = owner C == n
 
 -- the test that l stands in a clause
 abbrev pub has : ℕ → List ℕ → Bool
-has l C = any_of (nat_eq l) C
+has l C = list_any (nat_eq l) C
 
 -- the clause without the literal x
 abbrev pub without : ℕ → List ℕ → List ℕ

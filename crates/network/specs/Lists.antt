@@ -1,27 +1,8 @@
--- Membership, and tests over a list. Assumes nothing.
-use Rattle.std.specs.Prelude.{◌≡◌, Bool, true, false, ◌&&◌, ◌||◌, ◌⊎◌, List, [], ◌∷◌, ◌++◌, Some, None, Option}
+-- Membership. Assumes nothing.
+use Rattle.std.specs.Prelude.{◌≡◌, ◌⊎◌, List, [], ◌∷◌}
 
--- x stands in the list
+-- x stands in the list: it is the head, or it stands in the tail. The library's `Contains` names a place; this follows clauses
+-- as the walks along them do, head by head.
 abbrev pub In : {X : Type 0} → X → List X → Type 0
 In x [] = ⊥
 In x (y ∷ ys) = (x ≡ y) ⊎ In x ys
-
--- some element passes the test
-abbrev pub any_of : {X : Type 0} → (X → Bool) → List X → Bool
-any_of p [] = false
-any_of p (x ∷ xs) = p x || any_of p xs
-
--- every element passes the test
-abbrev pub all_of : {X : Type 0} → (X → Bool) → List X → Bool
-all_of p [] = true
-all_of p (x ∷ xs) = p x && all_of p xs
-
--- the lists that f makes of the elements, one after another
-unfoldable pub gather : {X Y : Type 0} → (X → List Y) → List X → List Y
-gather f [] = []
-gather f (x ∷ xs) = f x ++ gather f xs
-
--- the list of what is there
-abbrev pub listed : {X : Type 0} → Option X → List X
-listed None = []
-listed (Some x) = x ∷ []

@@ -1,6 +1,6 @@
 -- The lower nodes that a node's clauses name, and the rows that give them values, node 0 false.
 -- Assumes nothing.
-use Rattle.std.specs.Prelude.{◌≡◌, ℕ, zero, suc, ◌/◌, ◌%◌, ◌^◌, ◌≤◌, Bool, true, false, cond, not, ◌&&◌, ◌||◌, ◌⊎◌, List, [], ◌∷◌, ◌++◌, length, ◌==◌, ◌≢◌}
+use Rattle.std.specs.Prelude.{◌≡◌, ℕ, zero, suc, ◌/◌, ◌%◌, ◌^◌, ◌≤◌, Bool, true, false, cond, not, ◌&&◌, ◌||◌, ◌⊎◌, List, [], ◌∷◌, ◌++◌, length, fold, ◌==◌, ◌≢◌}
 use Rattle.network.specs.Assignments.{Assignment, node, put, sat}
 use Rattle.network.specs.Clauses.{has}
 use Rattle.network.specs.Lists.{In}
@@ -11,13 +11,11 @@ noted n xs k = cond (k == 0 || (k == n || has k xs)) xs (xs ++ (k ∷ []))
 
 -- xs with the nodes that a clause of n names
 abbrev pub noted_in : ℕ → List ℕ → List ℕ → List ℕ
-noted_in n xs [] = xs
-noted_in n xs (l ∷ C) = noted_in n (noted n xs (node l)) C
+noted_in n xs C = fold (λ ys l. noted n ys (node l)) xs C
 
 -- xs with the nodes that clauses of n name
 abbrev pub noted_all : ℕ → List ℕ → List (List ℕ) → List ℕ
-noted_all n xs [] = xs
-noted_all n xs (C ∷ Cs) = noted_all n (noted_in n xs C) Cs
+noted_all n xs Cs = fold (noted_in n) xs Cs
 
 -- the nodes besides 0 and n that the clauses of n name, each once
 abbrev pub lower : ℕ → List (List ℕ) → List ℕ

@@ -1,6 +1,6 @@
 -- The signature of a clause: 128 bits in two halves, to which each literal adds the bit of its number modulo 128.
 -- Assumes nothing.
-use Rattle.std.specs.Prelude.{◌≡◌, ℕ, ◌+◌, ◌-◌, ◌/◌, ◌%◌, ◌^◌, Bool, cond, ◌&&◌, List, [], ◌∷◌, ◌==◌, bit_and, bit_or, count_ones, nat_lt}
+use Rattle.std.specs.Prelude.{◌≡◌, ℕ, ◌+◌, ◌-◌, ◌/◌, ◌%◌, ◌^◌, Bool, cond, ◌&&◌, List, ◌==◌, fold, bit_and, bit_or, count_ones, nat_lt}
 use Rattle.network.specs.Lists.{In}
 
 -- the place of a literal's bit among the 128
@@ -19,14 +19,9 @@ low n l = cond (nat_lt (place l) 64) (bit_or n (2 ^ place l)) n
 abbrev pub high : ℕ → ℕ → ℕ
 high n l = cond (nat_lt (place l) 64) n (bit_or n (2 ^ (place l - 64)))
 
--- what n becomes as f adds one literal after another
-abbrev pub added : (ℕ → ℕ → ℕ) → ℕ → List ℕ → ℕ
-added f n [] = n
-added f n (l ∷ C) = added f (f n l) C
-
--- the signature of a clause, its low half first
+-- the signature of a clause, its low half first: each half takes in one literal after another
 abbrev pub signature : List ℕ → ℕ × ℕ
-signature C = (added low 0 C, added high 0 C)
+signature C = (fold low 0 C, fold high 0 C)
 
 -- bit j of the 128
 abbrev pub bit_at : ℕ × ℕ → ℕ → ℕ

@@ -1,8 +1,9 @@
 -- The theorems of the crate, each on the contract of a function.
 -- Assumes nothing.
 use Rattle.std.specs.Prelude.{◌≡◌, ℕ, ◌<◌, ◌≤◌, Bool, true, false, not, ◌&&◌, ◌⊎◌, ◌↔◌, List, ◌∷◌, ◌++◌, map, length, Some, None, filter as kept_by, ◌≢◌}
+use Rattle.std.specs.List.{list_all}
 use Rattle.network.specs.Assignments.{Assignment, node, opposite, lit, put, holds, sat, AgreeOn}
-use Rattle.network.specs.Lists.{all_of, In}
+use Rattle.network.specs.Lists.{In}
 use Rattle.network.specs.Rows.{lower, clashes, is_loose, Narrow, Valued, Tight, Clash, Loose}
 use Rattle.network.specs.Levels.{Below, Total, Same}
 use Rattle.network.specs.Networks.{Network, level, Within, Owned, Free}
@@ -19,7 +20,7 @@ pub record Basics : Type 0 where
   pub elsewhere : (σ : Assignment) (n : ℕ) (b : Bool) (C : List ℕ) → Free n C → holds (put σ n b) C ≡ holds σ C
   pub append : (σ : Assignment) (Cs Ds : List (List ℕ)) → sat σ (Cs ++ Ds) ≡ (sat σ Cs && sat σ Ds)
   pub filter : (σ : Assignment) (p : List ℕ → Bool) (Cs : List (List ℕ)) → sat σ Cs ≡ true → sat σ (kept_by p Cs) ≡ true
-  pub mapped : (σ : Assignment) (f : List ℕ → List ℕ) (Cs : List (List ℕ)) → sat σ (map f Cs) ≡ all_of (λ C. holds σ (f C)) Cs
+  pub mapped : (σ : Assignment) (f : List ℕ → List ℕ) (Cs : List (List ℕ)) → sat σ (map f Cs) ≡ list_all (λ C. holds σ (f C)) Cs
 
 -- the tests over all rows of a node tell exactly whether some values of the other nodes leave it none, or both
 pub record RowsTell : Type 0 where

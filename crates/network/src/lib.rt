@@ -9,7 +9,7 @@
 ghost use Rattle.network.specs.Theorems.{Basics, RowsTell, Resolution, DefinitionOut, Fitting, Simplification, Signatures, LoseBoth, Refine};
 
 // The laws of clauses and networks stand.
-pub fn laws_stand() -> u8
+pub fn laws_stand()
     ensures basics { Basics }
     ensures rows { RowsTell }
     ensures resolution { Resolution }
@@ -19,6 +19,4 @@ pub fn laws_stand() -> u8
     ensures signatures { Signatures }
     ensures pair { LoseBoth }
     ensures refine { Refine }
-{
-    0
-}
+{}

@@ -1,19 +1,19 @@
 -- Entries into a store that ends well formed and within its room are all accepted. Assumes nothing.
-use Rattle.std.proofs.Common.{◌≡◌, ℕ, suc, ◌+◌, ◌<◌, ◌≤◌, Bool, true, false, cond, eqb, ltb, List, [], ◌∷◌, length, Some, None, Option, sym, refl, ap, ◌∙◌, subst, inl, inr, ⊎_elim, arith}
-use Rattle.std.proofs.lemmas.Bool.{cases_eq, cond_both, and_from, lt-ltb}
+use Rattle.std.proofs.Common.{◌≡◌, ℕ, suc, ◌+◌, ◌<◌, ◌≤◌, Bool, true, false, ltb, List, [], ◌∷◌, length, Some, None, Option, sym, refl, ap, ◌∙◌, subst, inl, inr, ⊎_elim, arith}
+use Rattle.std.proofs.lemmas.Bool.{cases_eq, and_from, lt-ltb}
 use Rattle.network.specs.Clauses.{last, well_formed}
 use Rattle.network.specs.Lists.{In}
 use Rattle.network.specs.Values.{Values, simplified}
-use Rattle.network.proofs.Lists.{in_left, in_right, in_cases}
+use Rattle.network.proofs.Lists.{in_left, in_right}
 use Rattle.rules.specs.Store.{Meaning, live_clauses, kept_clauses, entered}
-use Rattle.rules.specs.Work.{Work, storing, valuing, each, known_if, add_simplified, add}
+use Rattle.rules.specs.Work.{Work, each, add_simplified, add}
 use Rattle.rules.specs.Const.{Fate, goes, shrinks, stays, fate_of, fate, marking, judged_by, judged}
 use Rattle.rules.specs.Turns.{entries, judged_entries_by, judged_entries, Accepted, AllAccepted}
 use Rattle.rules.proofs.Plain as plain
 use Rattle.rules.proofs.Answers.{enter_yes}
-use Rattle.rules.proofs.Index.{entered_own, entered_apart}
+use Rattle.rules.proofs.Index.{entered_own, entered_apart, entered_cases}
 use Rattle.rules.proofs.Simplified.{simplified_some}
-use Rattle.rules.proofs.Lives.{entered_live}
+use Rattle.rules.proofs.Lives.{entered_live, entered_kept}
 use Rattle.rules.proofs.Const.{NoLonger, no_longer}
 
 -- every clause is well formed
@@ -28,9 +28,6 @@ AllShort M = (l : ℕ) (C : List ℕ) → In C (M.own l) → length C ≤ 32
 abbrev pub Grows : Meaning → Meaning → Type 0
 Grows M N = (l : ℕ) (C : List ℕ) → In C (M.own l) → In C (N.own l)
 
-some_same : (S T : List ℕ) → ◌≡◌ {A = Option (List ℕ)} (Some S) (Some T) → S ≡ T
-some_same S T e = cc
-
 -- ## One entry
 
 entered_grows : (S : List ℕ) (M : Meaning) → Grows M (entered S M)
@@ -42,67 +39,28 @@ entered_in : (S : List ℕ) (M : Meaning) → In S ((entered S M).own (last S))
 entered_in S M = subst (In S) (sym (entered_own M S)) (in_right S (M.own (last S)) (S ∷ []) (inl refl))
 
 entered_short : (S : List ℕ) (M : Meaning) → length S ≤ 32 → AllShort M → AllShort (entered S M)
-entered_short S M s h l C i = ⊎_elim
-    (λ e. ⊎_elim (h (last S) C) (λ j. omega (arith, ap length (⊎_elim (λ q. q) absurd j), s)) (in_cases C (M.own (last S)) (S ∷ []) (subst (In C) (entered_own M S) (subst (λ g. In C ((entered S M).own g)) e i))))
-    (λ a. h l C (subst (In C) (entered_apart M S l a) i)) (cases_eq l (last S))
-
-entered_kept : (S : List ℕ) (M : Meaning) → kept_clauses (entered S M) ≤ suc (kept_clauses M)
-entered_kept S M = sums (live_clauses (entered S M)) (live_clauses M) (entered S M).dead_clauses M.dead_clauses (entered_live S M) (unfold entered in refl)
-  where
-    sums : (a b c d : ℕ) → a ≤ suc b → c ≡ d → a + c ≤ suc (b + d)
-    sums a b c d p q = omega arith
+entered_short S M s h l C i = ⊎_elim (h l C) (λ (q, e). omega (arith, ap length q, s)) (entered_cases M S l C i)
 
 -- a clause entered without a test
 module _ (C : List ℕ) (W : Work) where
   add_grows : Grows W.store (plain.add C W).store
-  unfolding plain.add
-  add_grows = go (simplified W.values C)
-    where
-      go : (o : Option (List ℕ)) → Grows W.store (plain.add_simplified o W).store
-      go None = λ l E h. h
-      go (Some S) = entered_grows S W.store
+  add_grows = plain.add_cases C W (λ N. Grows W.store N.store) (λ l E h. h) (λ S e. entered_grows S W.store)
 
   add_in : (S : List ℕ) → simplified W.values C ≡ Some S → In S ((plain.add C W).store.own (last S))
   unfolding plain.add
   add_in S e = subst (λ o. In S ((plain.add_simplified o W).store.own (last S))) (sym e) (entered_in S W.store)
 
   add_short : length C ≤ 32 → AllShort W.store → AllShort (plain.add C W).store
-  unfolding plain.add
-  add_short s h = go (simplified W.values C) (no_longer W.values C)
-    where
-      go : (o : Option (List ℕ)) → NoLonger C o → AllShort (plain.add_simplified o W).store
-      go None n = h
-      go (Some S) (n, f) = entered_short S W.store (omega (arith, n)) h
+  add_short s h = plain.add_cases C W (λ N. AllShort N.store) h (λ S e. let n = (subst (NoLonger C) e (no_longer W.values C)).0 in entered_short S W.store (omega arith) h)
 
   add_kept : kept_clauses (plain.add C W).store ≤ suc (kept_clauses W.store)
-  unfolding plain.add
-  add_kept = go (simplified W.values C)
-    where
-      same : (a : ℕ) → a ≤ suc a
-      same a = omega arith
-
-      go : (o : Option (List ℕ)) → kept_clauses (plain.add_simplified o W).store ≤ suc (kept_clauses W.store)
-      go None = same (kept_clauses W.store)
-      go (Some S) = entered_kept S W.store
+  add_kept = plain.add_cases C W (λ N. kept_clauses N.store ≤ suc (kept_clauses W.store)) (omega arith) (λ S e. entered_kept S W.store)
 
   add_live : live_clauses (plain.add C W).store ≤ suc (live_clauses W.store)
-  unfolding plain.add
-  add_live = go (simplified W.values C)
-    where
-      same : (a : ℕ) → a ≤ suc a
-      same a = omega arith
-
-      go : (o : Option (List ℕ)) → live_clauses (plain.add_simplified o W).store ≤ suc (live_clauses W.store)
-      go None = same (live_clauses W.store)
-      go (Some S) = entered_live S W.store
+  add_live = plain.add_cases C W (λ N. live_clauses N.store ≤ suc (live_clauses W.store)) (omega arith) (λ S e. entered_live S W.store)
 
   add_room : (plain.add C W).store.room ≡ W.store.room
-  unfolding plain.add entered
-  add_room = go (simplified W.values C)
-    where
-      go : (o : Option (List ℕ)) → (plain.add_simplified o W).store.room ≡ W.store.room
-      go None = refl
-      go (Some S) = refl
+  add_room = plain.add_cases C W (λ N. N.store.room ≡ W.store.room) refl (λ S e. unfold entered in refl)
 
   -- the entry is accepted, and so it makes no difference that it is tested
   abbrev Accepts : Type 0
@@ -121,10 +79,7 @@ module _ (C : List ℕ) (W : Work) where
     where
       go : (o : Option (List ℕ)) → simplified W.values C ≡ o → add_simplified o W ≡ plain.add_simplified o W
       go None e = refl
-      go (Some S) e =
-          let A = a S e in
-          ap (λ r. valuing (storing W r.0) (known_if r.1 S W.values))
-          (enter_yes S W.store (and_from (well_formed S) (ltb (kept_clauses W.store) W.store.room) A.formed (lt-ltb (kept_clauses W.store) W.store.room A.room)))
+      go (Some S) e = grind (arith, enter_yes S W.store, W.store, and_from (well_formed S) (ltb (kept_clauses W.store) W.store.room), lt-ltb (kept_clauses W.store) W.store.room)
 
 -- ## Entries one after another
 
@@ -137,29 +92,17 @@ adds_short [] W s h = h
 adds_short (C ∷ Cs) W s h = adds_short Cs (plain.add C W) (λ D i. s D (inr i)) (add_short C W (s C (inl refl)) h)
 
 pub adds_live : (Cs : List (List ℕ)) (W : Work) → live_clauses (each plain.add Cs W).store ≤ live_clauses W.store + length Cs
-adds_live [] W = le_zero (live_clauses W.store)
-  where
-    le_zero : (a : ℕ) → a ≤ a + 0
-    le_zero a = omega arith
-adds_live (C ∷ Cs) W = le_then (live_clauses (each plain.add Cs (plain.add C W)).store) (live_clauses (plain.add C W).store) (live_clauses W.store) (length Cs) (adds_live Cs (plain.add C W)) (add_live C W)
-  where
-    le_then : (a b c n : ℕ) → a ≤ b + n → b ≤ suc c → a ≤ c + suc n
-    le_then a b c n p q = omega arith
-
-suc_less : (k n r : ℕ) → k + suc n ≤ r → k < r
-suc_less k n r h = omega arith
-
-next_less : (k j n r q : ℕ) → k + suc n ≤ r → j ≤ suc k → q ≡ r → j + n ≤ q
-next_less k j n r q h a e = omega arith
+adds_live [] W = omega arith
+adds_live (C ∷ Cs) W = omega (arith, adds_live Cs (plain.add C W), add_live C W)
 
 pub adds_accepted : (Cs : List (List ℕ)) (W : Work) → AllFormed (each plain.add Cs W).store → kept_clauses W.store + length Cs ≤ W.store.room
     → (each add Cs W ≡ each plain.add Cs W) × AllAccepted (entries Cs W)
 unfolding entries
 adds_accepted [] W f r = (refl, λ e i. absurd i)
 adds_accepted (C ∷ Cs) W f r =
-    let a : Accepts C W = accepts_in C W (each plain.add Cs (plain.add C W)).store (adds_grow Cs (plain.add C W)) f (suc_less (kept_clauses W.store) (length Cs) W.store.room r) in
+    let a : Accepts C W = accepts_in C W (each plain.add Cs (plain.add C W)).store (adds_grow Cs (plain.add C W)) f (omega (arith, r)) in
     let p = add_agrees C W a in
-    let (q, s) = adds_accepted Cs (plain.add C W) f (next_less (kept_clauses W.store) (kept_clauses (plain.add C W).store) (length Cs) W.store.room (plain.add C W).store.room r (add_kept C W) (add_room C W)) in (
+    let (q, s) = adds_accepted Cs (plain.add C W) f (omega (arith, r, add_kept C W, add_room C W)) in (
       ap (each add Cs) p ∙ q,
       λ e i. ⊎_elim (λ w. subst (λ d. (S : List ℕ) → simplified d.before.values d.clause ≡ Some S → Accepted d.before S) (sym w) a)
           (λ j. s e (subst (λ U. In e (entries Cs U)) p j)) i,
@@ -190,16 +133,14 @@ shrinks_short V C S e = go (simplified V C) (no_longer V C) e
     is T q = cc
 
     not_goes : goes ≡ shrinks S → ⊥
-    not_goes q = let z : ◌≡◌ {A = ℕ} 0 1 = cc in omega arith
+    not_goes q = cc
 
     not_stays : stays ≡ shrinks S → ⊥
-    not_stays q = let z : ◌≡◌ {A = ℕ} 0 1 = cc in omega arith
+    not_stays q = cc
 
     go : (o : Option (List ℕ)) → NoLonger C o → fate_of C o ≡ shrinks S → length S ≤ length C
     go None n q = absurd (not_goes q)
-    go (Some T) (n, f) q = cond_both (eqb (last T) (last C)) (cond (ltb (length T) (length C)) (shrinks T) stays) goes (λ x. x ≡ shrinks S → length S ≤ length C)
-        (λ t. cond_both (ltb (length T) (length C)) (shrinks T) stays (λ x. x ≡ shrinks S → length S ≤ length C) (λ u w. omega (arith, ap length (is T w), n)) (λ u w. absurd (not_stays w)))
-        (λ t w. absurd (not_goes w)) q
+    go (Some T) (n, f) q = grind (arith, not_stays, not_goes)
 
 pub judged_short : (Cs : List (List ℕ)) (W : Work) → ((C : List ℕ) → In C Cs → length C ≤ 32) → AllShort W.store → AllShort (plain.judged Cs W).1.store
 judged_short [] W s h = unfold plain.judged in h
@@ -213,18 +154,9 @@ judged_kept [] W = (unfold plain.judged in (same (kept_clauses W.store)), unfold
     same : (a : ℕ) → a ≤ a + 0
     same a = omega arith
 judged_kept (C ∷ Cs) W = judged_cases Cs W (λ r. (kept_clauses r.1.store ≤ kept_clauses W.store + length (C ∷ Cs)) × (r.1.store.room ≡ W.store.room)) C (λ b r p. p)
-    (let (a, b) = judged_kept Cs W in (one (kept_clauses (plain.judged Cs W).1.store) (kept_clauses W.store) (length Cs) a, b))
+    (let (a, b) = judged_kept Cs W in (omega (arith, a), b))
     (λ S e. let (a, b) = judged_kept Cs (plain.add S W) in
-    (two (kept_clauses (plain.judged Cs (plain.add S W)).1.store) (kept_clauses (plain.add S W).store) (kept_clauses W.store) (length Cs) a (add_kept S W), b ∙ add_room S W))
-  where
-    one : (a b n : ℕ) → a ≤ b + n → a ≤ b + suc n
-    one a b n p = omega arith
-
-    two : (a c b n : ℕ) → a ≤ c + n → c ≤ suc b → a ≤ b + suc n
-    two a c b n p q = omega arith
-
-less_one : (k n r : ℕ) → k + suc n ≤ r → k + n ≤ r
-less_one k n r h = omega arith
+    (omega (arith, a, add_kept S W), b ∙ add_room S W))
 
 pub judged_accepted : (Cs : List (List ℕ)) (W : Work) → AllFormed (plain.judged Cs W).1.store → kept_clauses W.store + length Cs ≤ W.store.room
     → (judged Cs W ≡ plain.judged Cs W) × AllAccepted (judged_entries Cs W)
@@ -232,8 +164,8 @@ unfolding judged plain.judged judged_entries
 judged_accepted [] W f r = (refl, λ e i. absurd i)
 judged_accepted (C ∷ Cs) W f r =
     go (fate W.values C) f
-    (λ g. judged_accepted Cs W g (less_one (kept_clauses W.store) (length Cs) W.store.room r))
-    (λ S g. judged_accepted Cs (plain.add S W) g (next_less (kept_clauses W.store) (kept_clauses (plain.add S W).store) (length Cs) W.store.room (plain.add S W).store.room r (add_kept S W) (add_room S W)))
+    (λ g. judged_accepted Cs W g (omega (arith, r)))
+    (λ S g. judged_accepted Cs (plain.add S W) g (omega (arith, r, add_kept S W, add_room S W)))
   where
     go : (x : Fate) → AllFormed (plain.judged_by x W (λ w. plain.judged Cs w)).1.store
         → (AllFormed (plain.judged Cs W).1.store → (judged Cs W ≡ plain.judged Cs W) × AllAccepted (judged_entries Cs W))
@@ -242,7 +174,7 @@ judged_accepted (C ∷ Cs) W f r =
     go goes g a b = let (q, s) = a g in (ap (marking true) q, s)
     go stays g a b = let (q, s) = a g in (ap (marking false) q, s)
     go (shrinks S) g a b =
-        let c : Accepts S W = accepts_in S W (plain.judged Cs (plain.add S W)).1.store (judged_grows Cs (plain.add S W)) g (suc_less (kept_clauses W.store) (length Cs) W.store.room r) in
+        let c : Accepts S W = accepts_in S W (plain.judged Cs (plain.add S W)).1.store (judged_grows Cs (plain.add S W)) g (omega (arith, r)) in
         let p = add_agrees S W c in
         let (q, s) = b S g in (
           ap (λ U. marking false (judged Cs U)) p ∙ ap (marking false) q,

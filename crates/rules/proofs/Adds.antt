@@ -12,13 +12,14 @@ use Rattle.rules.specs.Store.{Meaning, entered}
 use Rattle.rules.specs.Held.{held, Placed}
 use Rattle.rules.specs.Index.{Indexed}
 use Rattle.rules.specs.Work.{Work, each, known_by}
-use Rattle.rules.proofs.Plain.{add_simplified, add}
+use Rattle.rules.proofs.Along.{stays_chains, each_along}
+use Rattle.rules.proofs.Plain.{add_simplified, add, add_cases}
 use Rattle.rules.proofs.Kept.{with_apart}
 use Rattle.rules.proofs.Simplified.{says_at, simplified_some, simplified_none, unit_true}
 use Rattle.rules.proofs.Enter.{Plus, Occurs, Implied, enter_kept}
 use Rattle.rules.proofs.Verdicts.{owner_last}
-use Rattle.rules.proofs.Places.{held_in, held_new, held_old, placed_changed}
-use Rattle.rules.proofs.Index.{entered_own, entered_apart, entered_indexed}
+use Rattle.rules.proofs.Places.{held_in, held_new, held_old}
+use Rattle.rules.proofs.Index.{entered_own, entered_apart, entered_cases, entered_indexed}
 use Rattle.rules.proofs.Facts.{none_some}
 
 pub entered_plus : (M : Meaning) (S : List ℕ) → Plus (held M) (held (entered S M)) S
@@ -30,63 +31,39 @@ entered_plus M S = record {
 }
 
 pub entered_placed : (M : Meaning) (S : List ℕ) → Placed M → Placed (entered S M)
-entered_placed M S P = placed_changed M (entered S M) (last S) (entered_apart M S)
-    (λ E i. ⊎_elim (P (last S) E) (λ j. ap last (⊎_elim (λ e. e) absurd j)) (in_cases E (M.own (last S)) (S ∷ []) (subst (In E) (entered_own M S) i))) P
+entered_placed M S P l E i = ⊎_elim (P l E) (λ (q, e). ap last q ∙ sym e) (entered_cases M S l E i)
 
 -- what does not change
 pub add_top : (C : List ℕ) (W : Work) → ((add C W).top ≡ W.top) × ((add C W).out ≡ W.out) × ((add C W).frozen ≡ W.frozen)
-unfolding add
-add_top C W = go (simplified W.values C)
-  where
-    go : (o : Option (List ℕ)) → ((add_simplified o W).top ≡ W.top) × ((add_simplified o W).out ≡ W.out) × ((add_simplified o W).frozen ≡ W.frozen)
-    go None = (refl, refl, refl)
-    go (Some S) = (refl, refl, refl)
+add_top C W = add_cases C W (λ N. (N.top ≡ W.top) × (N.out ≡ W.out) × (N.frozen ≡ W.frozen)) (refl, refl, refl) (λ S e. (refl, refl, refl))
 
 pub adds_top : (Cs : List (List ℕ)) (W : Work) → ((each add Cs W).top ≡ W.top) × ((each add Cs W).out ≡ W.out) × ((each add Cs W).frozen ≡ W.frozen)
 adds_top [] W = (refl, refl, refl)
 adds_top (C ∷ Cs) W = let (a, b, c) = adds_top Cs (add C W) in let (p, q, r) = add_top C W in (a ∙ p, b ∙ q, c ∙ r)
 
 pub add_placed : (C : List ℕ) (W : Work) → Placed W.store → Placed (add C W).store
-unfolding add
-add_placed C W P = go (simplified W.values C)
-  where
-    go : (o : Option (List ℕ)) → Placed (add_simplified o W).store
-    go None = P
-    go (Some S) = entered_placed W.store S P
+add_placed C W P = add_cases C W (λ N. Placed N.store) P (λ S e. entered_placed W.store S P)
 
 pub add_indexed : (C : List ℕ) (W : Work) → Indexed W.store → Indexed (add C W).store
-unfolding add
-add_indexed C W I = go (simplified W.values C)
-  where
-    go : (o : Option (List ℕ)) → Indexed (add_simplified o W).store
-    go None = I
-    go (Some S) = entered_indexed W.store S I
+add_indexed C W I = add_cases C W (λ N. Indexed N.store) I (λ S e. entered_indexed W.store S I)
 
 pub adds_placed : (Cs : List (List ℕ)) (W : Work) → Placed W.store → Placed (each add Cs W).store
-adds_placed [] W P = P
-adds_placed (C ∷ Cs) W P = adds_placed Cs (add C W) (add_placed C W P)
+adds_placed = each_along (λ W N. Placed W.store → Placed N.store) (stays_chains (λ W. Placed W.store)) add add_placed
 
 pub adds_indexed : (Cs : List (List ℕ)) (W : Work) → Indexed W.store → Indexed (each add Cs W).store
-adds_indexed [] W I = I
-adds_indexed (C ∷ Cs) W I = adds_indexed Cs (add C W) (add_indexed C W I)
+adds_indexed = each_along (λ W N. Indexed W.store → Indexed N.store) (stays_chains (λ W. Indexed W.store)) add add_indexed
 
 -- node 0's value stays
 add_zero : (C : List ℕ) (W : Work) → W.values 0 ≡ Some false → (add C W).values 0 ≡ Some false
-unfolding add
-add_zero C W z = go (simplified W.values C) refl
+add_zero C W z = add_cases C W (λ N. N.values 0 ≡ Some false) z (λ S e. stays S (λ l i. ((simplified_some W.values C S e).0 l i).1))
   where
     stays : (S : List ℕ) → ((l : ℕ) → In l S → W.values (node l) ≡ None) → known_by S W.values 0 ≡ Some false
     stays [] h = z
     stays (l ∷ []) h = with_apart W.values (node l) (sign l) 0 (λ e. none_some false (sym (h l (inl refl)) ∙ ap W.values (sym e) ∙ z)) ∙ z
     stays (l ∷ k ∷ S) h = z
 
-    go : (o : Option (List ℕ)) → simplified W.values C ≡ o → (add_simplified o W).values 0 ≡ Some false
-    go None e = z
-    go (Some S) e = stays S (λ l i. ((simplified_some W.values C S e).0 l i).1)
-
 pub adds_zero : (Cs : List (List ℕ)) (W : Work) → W.values 0 ≡ Some false → (each add Cs W).values 0 ≡ Some false
-adds_zero [] W z = z
-adds_zero (C ∷ Cs) W z = adds_zero Cs (add C W) (add_zero C W z)
+adds_zero = each_along (λ W N. W.values 0 ≡ Some false → N.values 0 ≡ Some false) (stays_chains (λ W. W.values 0 ≡ Some false)) add add_zero
 
 -- some clause at its owner is part of C
 abbrev pub Covered : Network → List ℕ → Type 0

@@ -1,16 +1,16 @@
 -- bve_simplify keeps what is kept. Assumes nothing.
-use Rattle.std.proofs.Common.{◌≡◌, ℕ, suc, ◌+◌, ◌*◌, ◌<◌, ◌≤◌, true, false, ◌||◌, eqb, ltb, ◌⊎◌, List, [], ◌∷◌, length, get_or, Some, None, Option, sym, refl, ap, ◌∙◌, subst, inl, inr, ⊎_elim, arith}
+use Rattle.std.proofs.Common.{◌≡◌, ℕ, suc, ◌+◌, ◌*◌, ◌<◌, ◌≤◌, true, false, ◌||◌, eqb, ltb, ◌⊎◌, List, [], ◌∷◌, length, get_or, Some, None, Option, sym, refl, ap, ◌∙◌, subst, inl, inr, ⊎_elim, arith, flat_map, option_to_list}
 use mathlib.Core.Path.{fun_ext}
 use Rattle.std.proofs.lemmas.Bool.{cases_eq, cases_lt, cases_Bool, cond_both, or_parts, eqb-false}
 use Rattle.std.proofs.lemmas.Bool.Decides.{nat_tests}
 use Rattle.network.specs.Assignments.{Assignment, node, opposite, put, holds}
-use Rattle.network.specs.Lists.{In, gather, listed}
+use Rattle.network.specs.Lists.{In}
 use Rattle.network.specs.Levels.{Below}
 use Rattle.network.specs.Networks.{Network, level, Free}
 use Rattle.network.specs.Clauses.{Ordered, Subsumes, owner, has, last, front}
 use Rattle.network.specs.Resolution.{resolve, Resolvent, Resolved, Resolves}
 use Rattle.network.proofs.Literals.{node_neg, neg_neg}
-use Rattle.network.proofs.Lists.{in_left, in_right, in_cases, in_gather, gather_in, in_listed, listed_in}
+use Rattle.network.proofs.Lists.{in_left, in_right, in_cases, in_flat_map, flat_map_in, in_option, option_in}
 use Rattle.network.proofs.Holding.{holds_more}
 use Rattle.network.proofs.Networks.{clause_at}
 use Rattle.network.proofs.Ordered.{owner_below, ordered_rising, ordered_once}
@@ -60,15 +60,12 @@ record Upon (M : Meaning) (v : ℕ) (R : List ℕ) : Type 0 where
 module _ (M : Meaning) (v : ℕ) where
   in_one : (p : ℕ) (C : List ℕ) (r : Ref) (R : List ℕ) (Rs : List Ref) → In C (M.own p) → In r Rs → resolve p C (referred_clause M r) ≡ Some R → In R (resolvents M p (M.own p) Rs)
   unfolding resolvents
-  in_one p C r R Rs i j e = in_gather (λ C. gather (λ R. listed (resolve p C (referred_clause M R))) Rs) (M.own p) C R i
-      (in_gather (λ R. listed (resolve p C (referred_clause M R))) Rs r R j (in_listed (resolve p C (referred_clause M r)) R e))
+  in_one p C r R Rs i j e = in_flat_map (λ C. flat_map (λ R. option_to_list (resolve p C (referred_clause M R))) Rs) (M.own p) C R i
+      (in_flat_map (λ R. option_to_list (resolve p C (referred_clause M R))) Rs r R j (in_option (resolve p C (referred_clause M r)) R e))
 
   one_in : (p : ℕ) (R : List ℕ) (Rs : List Ref) → In R (resolvents M p (M.own p) Rs) → (C : List ℕ) × (r : Ref) × In C (M.own p) × In r Rs × (resolve p C (referred_clause M r) ≡ Some R)
   unfolding resolvents
-  one_in p R Rs h =
-      let (C, i, a) = gather_in (λ C. gather (λ R. listed (resolve p C (referred_clause M R))) Rs) (M.own p) R h in
-      let (r, j, b) = gather_in (λ R. listed (resolve p C (referred_clause M R))) Rs R a in
-      (C, r, i, j, listed_in (resolve p C (referred_clause M r)) R b)
+  one_in p R Rs h = grind (arith, nat_tests, flat_map_in, option_in)
 
   upon : (R : List ℕ) → In R (all_resolvents M v) → Upon M v R
   unfolding all_resolvents

@@ -1,21 +1,20 @@
 -- Every call keeps what is kept, and leaves the nodes and the frozen ones as they are. Assumes nothing.
-use Rattle.std.proofs.Common.{◌≡◌, ℕ, zero, suc, ◌/◌, ◌≤◌, leb, List, [], ◌∷◌, Some, None, Option, Result, sym, refl, ◌∙◌, subst}
+use Rattle.std.proofs.Common.{◌≡◌, ℕ, suc, ◌/◌, ◌≤◌, leb, List, [], ◌∷◌, Result, sym, refl, ◌∙◌, subst}
 use Rattle.std.proofs.lemmas.Bool.{cond_both, leb-true}
 use Rattle.network.specs.Networks.{Network}
 use Rattle.network.specs.Clauses.{has}
-use Rattle.network.specs.Values.{simplified}
-use Rattle.network.specs.Lemmas.{lemmas}
 use Rattle.image.specs.declared.fault.Fault.{Fault}
-use Rattle.rules.specs.Store.{live_clauses, index_on}
+use Rattle.rules.specs.Store.{live_clauses}
 use Rattle.rules.specs.Good.{Good}
 use Rattle.rules.specs.Lawful.{Lawful}
-use Rattle.rules.specs.Work.{Work, storing, each, add_simplified, add}
+use Rattle.rules.specs.Work.{Work, add}
 use Rattle.rules.specs.Const.{const_simplify}
-use Rattle.rules.specs.Bve.{all_resolvents, use_count, taken_out, eliminated, passed_over, given_up, attempted, attempt, least, but, attempts, bve_simplify}
+use Rattle.rules.specs.Bve.{bve_simplify}
 use Rattle.rules.specs.Subsume.{subsume_simplify}
 use Rattle.rules.specs.Calls.{need, lent, half, const_answer, bve_answer, subsume_answer, simplify_answer, simplified_work, finalized, with_live, with_out, Call, const_call, bve_call, subsume_call, simplify_call, finalize_call, called, after}
 use Rattle.rules.proofs.Subsume.{subsume_kept}
-use Rattle.rules.proofs.Const.{const_good, const_nodes}
+use Rattle.rules.proofs.Const.{const_good}
+use Rattle.rules.proofs.Along.{Chains, Steps, entry_cases, const_along, bve_along}
 use Rattle.rules.proofs.Passes.{const_keeps, bve_keeps, subsume_keeps}
 use Rattle.rules.proofs.Unrefused.{const_agrees, bve_good}
 
@@ -23,38 +22,20 @@ use Rattle.rules.proofs.Unrefused.{const_agrees, bve_good}
 abbrev pub SameNodes : Work → Work → Type 0
 SameNodes W N = (N.top ≡ W.top) × (N.frozen ≡ W.frozen)
 
-nodes_then : (W N R : Work) → SameNodes W N → SameNodes N R → SameNodes W R
-nodes_then W N R (a, b) (c, d) = (c ∙ a, d ∙ b)
+nodes_chains : Chains SameNodes
+nodes_chains = record { same = λ W. (refl, refl); next = λ W N R (a, b) (c, d). (c ∙ a, d ∙ b) }
 
 add_nodes : (C : List ℕ) (W : Work) → SameNodes W (add C W)
-unfolding add
-add_nodes C W = go (simplified W.values C)
-  where
-    go : (o : Option (List ℕ)) → SameNodes W (add_simplified o W)
-    go None = (refl, refl)
-    go (Some S) = (refl, refl)
+add_nodes C W = entry_cases C W (SameNodes W) (refl, refl) (λ S e. (refl, refl))
 
-adds_nodes : (Cs : List (List ℕ)) (W : Work) → SameNodes W (each add Cs W)
-adds_nodes [] W = (refl, refl)
-adds_nodes (C ∷ Cs) W = nodes_then W (add C W) (each add Cs (add C W)) (add_nodes C W) (adds_nodes Cs (add C W))
+nodes_steps : Steps SameNodes
+nodes_steps = record { chains = nodes_chains; enters = add_nodes; removes = λ l i W h. (refl, refl); takes = λ n W. (refl, refl) }
 
-attempt_nodes : (v : ℕ) (W : Work) → SameNodes W (attempt v W)
-unfolding attempt eliminated taken_out
-attempt_nodes v W = cond_both (passed_over W v) W (attempted v (all_resolvents W.store v) W) (SameNodes W) (λ e. (refl, refl))
-    (λ e. cond_both (given_up W v (all_resolvents W.store v)) W (eliminated v (all_resolvents W.store v) W) (SameNodes W) (λ f. (refl, refl))
-    (λ f. adds_nodes (lemmas (all_resolvents W.store v)) (taken_out v W)))
-
-attempts_nodes : (f : ℕ) (ws : List ℕ) (W : Work) → SameNodes W (attempts f ws W)
-unfolding attempts
-attempts_nodes zero ws W = (refl, refl)
-attempts_nodes (suc f) [] W = (refl, refl)
-attempts_nodes (suc f) (k ∷ ks) W =
-    let n = least (use_count W.store) k ks in
-    nodes_then W (attempt n W) (attempts f (but n (k ∷ ks)) (attempt n W)) (attempt_nodes n W) (attempts_nodes f (but n (k ∷ ks)) (attempt n W))
+const_nodes : (W : Work) → SameNodes W (const_simplify W)
+const_nodes = const_along SameNodes nodes_steps (λ W. (refl, refl))
 
 bve_nodes : (W : Work) → SameNodes W (bve_simplify W)
-unfolding bve_simplify
-bve_nodes W = cond_both W.store.indexed W _ (SameNodes W) (λ e. (refl, refl)) (λ e. attempts_nodes (suc W.top) _ (storing W (index_on W.store)))
+bve_nodes = bve_along SameNodes nodes_steps (λ W. (refl, refl))
 
 subsume_nodes : (W : Work) → SameNodes W (subsume_simplify W)
 unfolding subsume_simplify
@@ -76,12 +57,12 @@ module _ (first : Network) where
         good = subst (Good first) (sym p) (const_good first W S.good);
         lawful = a;
         room = b ∙ S.room;
-        nodes = nodes_then V W (const_simplify W) S.nodes (subst (SameNodes W) (sym p) (const_nodes first W S.good));
+        nodes = nodes_chains.next V W (const_simplify W) S.nodes (const_nodes W);
       }
 
   bve_sound : (r : ℕ) (V W : Work) → Sound r V W → Sound r V (bve_simplify W)
   bve_sound r V W S = let (a, b) = bve_keeps W S.lawful in
-      record { good = bve_good first W S.good S.lawful; lawful = a; room = b ∙ S.room; nodes = nodes_then V W (bve_simplify W) S.nodes (bve_nodes W) }
+      record { good = bve_good first W S.good S.lawful; lawful = a; room = b ∙ S.room; nodes = nodes_chains.next V W (bve_simplify W) S.nodes (bve_nodes W) }
 
   subsume_good : (W : Work) → Good first W → Good first (subsume_simplify W)
   unfolding subsume_simplify
@@ -91,7 +72,7 @@ module _ (first : Network) where
 
   subsume_sound : (r : ℕ) (V W : Work) → Sound r V W → Sound r V (subsume_simplify W)
   subsume_sound r V W S = let (a, b) = subsume_keeps W S.lawful in
-      record { good = subsume_good W S.good; lawful = a; room = b ∙ S.room; nodes = nodes_then V W (subsume_simplify W) S.nodes (subsume_nodes W) }
+      record { good = subsume_good W S.good; lawful = a; room = b ∙ S.room; nodes = nodes_chains.next V W (subsume_simplify W) S.nodes (subsume_nodes W) }
 
   lent_sound : {X : Type 0} (r : ℕ) (V W : Work) (n : ℕ) (x : Work × Result X Fault) → Sound r V W → Sound r V x.0 → Sound r V (lent n W x).0
   lent_sound r V W n x S T = cond_both (leb (need W) n) x _ (λ y. Sound r V y.0) (λ e. T) (λ e. S)

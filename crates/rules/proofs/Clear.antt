@@ -1,12 +1,14 @@
 -- Marked clauses cleared from a list. Assumes nothing.
 use Rattle.std.proofs.Common.{◌≡◌, ℕ, zero, suc, ◌+◌, ◌-◌, ◌<◌, ◌≤◌, Bool, true, false, ltb, List, [], ◌∷◌, ◌++◌, length, get_or, replicate, sym, refl, ap, ◌∙◌, subst, ⊎_elim, arith}
+use Rattle.std.specs.List.{swap_remove}
 use Rattle.std.proofs.lemmas.Bool.{cases_eq, cond_both, both_ways, ltb-true, ltb-false}
+use Rattle.std.proofs.lemmas.List.{get_or-replicate, length-append, length-replicate}
 use Rattle.network.specs.Lists.{In}
-use Rattle.rules.specs.Store.{Meaning, swap_out, removed}
+use Rattle.rules.specs.Store.{Meaning, removed}
 use Rattle.rules.specs.Index.{Indexed}
 use Rattle.rules.specs.Work.{cleared, clear, clear_all}
 use Rattle.rules.proofs.Places.{in_at, at_in}
-use Rattle.rules.proofs.Index.{removed_own, removed_apart, removed_length, removed_indexed, swap_length, swap_here, swap_other, append_length}
+use Rattle.rules.proofs.Index.{removed_own, removed_apart, removed_length, removed_indexed, swap_length, swap_here, swap_other}
 
 -- E stands at a place that is not marked
 abbrev pub Left : List Bool → List (List ℕ) → List ℕ → Type 0
@@ -31,38 +33,16 @@ module _ (l : ℕ) where
   }
 
   module _ (i : ℕ) (marks : List Bool) (M : Meaning) (len : length marks ≡ length (M.own l)) (li : i < length (M.own l)) (t : get_or marks i false ≡ true) where
-    swapped_left : (E : List ℕ) → Left (swap_out false i marks) ((removed l i M).own l) E → Left marks (M.own l) E
-    swapped_left E (j, lj, u, e) =
-        let lt : j < length (M.own l) - 1 = omega (arith, removed_length M l i) in
-        let lt' : j < length marks - 1 = omega (arith, len) in
-        ⊎_elim
-        (λ q. (
-          length (M.own l) - 1,
-          omega arith,
-          ap (λ m. get_or marks (m - 1) false) (sym len) ∙ sym (swap_here false i marks (omega (arith, q))) ∙ ap (λ g. get_or (swap_out false i marks) g false) (sym q) ∙ u,
-          sym (swap_here [] i (M.own l) (omega (arith, q))) ∙ ap (λ xs. get_or xs i []) (sym (removed_own M l i)) ∙ ap (λ g. get_or ((removed l i M).own l) g []) (sym q) ∙ e,
-        ))
-        (λ a. (j, omega arith, sym (swap_other false i j marks lt' a) ∙ u, sym (swap_other [] i j (M.own l) lt a) ∙ ap (λ xs. get_or xs j []) (sym (removed_own M l i)) ∙ e))
-        (cases_eq j i)
+    swapped_left : (E : List ℕ) → Left (swap_remove marks i false) ((removed l i M).own l) E → Left marks (M.own l) E
+    swapped_left E (j, lj, u, e) = grind (arith, len, removed_length M l i, removed_own M l i, swap_here false i marks, swap_here [] i (M.own l), swap_other false i j marks, swap_other [] i j (M.own l), cases_eq j i)
 
-    swapped_stays : (E : List ℕ) → Left marks (M.own l) E → Left (swap_out false i marks) ((removed l i M).own l) E
-    swapped_stays E (j, lj, u, e) =
-        let ne : j ≡ i → ⊥ = λ q. both_ways (get_or marks i false) (ap (λ g. get_or marks g false) (sym q) ∙ u) t in
-        ⊎_elim
-        (λ q. let lt : i < length (M.own l) - 1 = omega (arith, q, ne) in (
-          i,
-          omega (arith, removed_length M l i),
-          swap_here false i marks (omega (arith, len)) ∙ ap (λ g. get_or marks g false) (omega (arith, len, q)) ∙ u,
-          ap (λ xs. get_or xs i []) (removed_own M l i) ∙ swap_here [] i (M.own l) lt ∙ ap (λ g. get_or (M.own l) g []) (sym q) ∙ e,
-        ))
-        (λ a. let lt : j < length (M.own l) - 1 = omega (arith, a) in
-        (j, omega (arith, removed_length M l i), swap_other false i j marks (omega (arith, len)) ne ∙ u, ap (λ xs. get_or xs j []) (removed_own M l i) ∙ swap_other [] i j (M.own l) lt ne ∙ e))
-        (cases_eq j (length (M.own l) - 1))
+    swapped_stays : (E : List ℕ) → Left marks (M.own l) E → Left (swap_remove marks i false) ((removed l i M).own l) E
+    swapped_stays E (j, lj, u, e) = grind (arith, len, t, removed_length M l i, removed_own M l i, swap_here false i marks, swap_here [] i (M.own l), swap_other false i j marks, swap_other [] i j (M.own l), cases_eq j (length (M.own l) - 1))
 
-    still_unmarked : ((j : ℕ) → j < i → get_or marks j false ≡ false) → (j : ℕ) → j < i → get_or (swap_out false i marks) j false ≡ false
+    still_unmarked : ((j : ℕ) → j < i → get_or marks j false ≡ false) → (j : ℕ) → j < i → get_or (swap_remove marks i false) j false ≡ false
     still_unmarked h j lj = swap_other false i j marks (omega (arith, len)) (λ q. omega arith) ∙ h j lj
 
-    swap_cleared : (N : Meaning) → Cleared l (swap_out false i marks) (removed l i M) N → Cleared l marks M N
+    swap_cleared : (N : Meaning) → Cleared l (swap_remove marks i false) (removed l i M) N → Cleared l marks M N
     swap_cleared N c = record {
       apart = λ k a. c.apart k a ∙ removed_apart M l i k a;
       left = λ E h. swapped_left E (c.left E h);
@@ -77,25 +57,16 @@ module _ (l : ℕ) where
   cleared_is zero i marks M len u le = done i marks M u (omega arith)
   cleared_is (suc f) i marks M len u le = cond_both (ltb i (length (M.own l))) _ M (Cleared l marks M)
       (λ e. let li = ltb-true i (length (M.own l)) e in
-      cond_both (get_or marks i false) (cleared f l i (swap_out false i marks) (removed l i M)) (cleared f l (suc i) marks M) (Cleared l marks M)
-      (λ t. swap_cleared i marks M len li t (cleared f l i (swap_out false i marks) (removed l i M))
-      (cleared_is f i (swap_out false i marks) (removed l i M) (omega (arith, swap_length false i marks, removed_length M l i, len)) (still_unmarked i marks M len li t u) (omega (arith, removed_length M l i))))
+      cond_both (get_or marks i false) (cleared f l i (swap_remove marks i false) (removed l i M)) (cleared f l (suc i) marks M) (Cleared l marks M)
+      (λ t. swap_cleared i marks M len li t (cleared f l i (swap_remove marks i false) (removed l i M))
+      (cleared_is f i (swap_remove marks i false) (removed l i M) (omega (arith, swap_length false i marks, removed_length M l i, len)) (still_unmarked i marks M len li t u) (omega (arith, removed_length M l i))))
       (λ t. cleared_is f (suc i) marks M len (λ j lj. ⊎_elim (λ q. ap (λ g. get_or marks g false) q ∙ t) (λ a. u j (omega (arith, a))) (cases_eq j i)) (omega arith)))
       (λ e. done i marks M u (ltb-false i (length (M.own l)) e))
-
-replicate_at : (n j : ℕ) (b : Bool) → j < n → get_or (replicate n b) j false ≡ b
-replicate_at zero j b l = absurd (omega arith)
-replicate_at (suc n) zero b l = refl
-replicate_at (suc n) (suc j) b l = replicate_at n j b (omega arith)
 
 replicate_false : (n j : ℕ) → get_or (replicate n false) j false ≡ false
 replicate_false zero j = refl
 replicate_false (suc n) zero = refl
 replicate_false (suc n) (suc j) = replicate_false n j
-
-pub replicate_length : {X : Type 0} (n : ℕ) (b : X) → length (replicate n b) ≡ n
-replicate_length zero b = refl
-replicate_length (suc n) b = ap suc (replicate_length n b)
 
 -- unmarked places past the marks
 padded : (marks : List Bool) (n j : ℕ) → get_or (marks ++ replicate n false) j false ≡ get_or marks j false
@@ -107,7 +78,7 @@ pub clear_is : (l : ℕ) (marks : List Bool) (M : Meaning) → length marks ≤ 
 unfolding clear
 clear_is l marks M le =
     let c = cleared_is l (length (M.own l)) 0 (marks ++ replicate (length (M.own l) - length marks) false) M
-    (omega (arith, append_length marks (replicate (length (M.own l) - length marks) false), replicate_length (length (M.own l) - length marks) false)) (λ j lj. absurd (omega arith)) (omega arith) in
+    (omega (arith, length-append marks (replicate (length (M.own l) - length marks) false), length-replicate (length (M.own l) - length marks) false)) (λ j lj. absurd (omega arith)) (omega arith) in
     record {
       apart = c.apart;
       left = λ E h. let (j, lj, u, e) = c.left E h in (j, lj, sym (padded marks (length (M.own l) - length marks) j) ∙ u, e);
@@ -118,8 +89,8 @@ clear_is l marks M le =
 
 pub clear_all_is : (l : ℕ) (M : Meaning) → Cleared l (replicate (length (M.own l)) true) M (clear_all l M)
 unfolding clear_all
-clear_all_is l M = clear_is l (replicate (length (M.own l)) true) M (omega (arith, replicate_length (length (M.own l)) true))
+clear_all_is l M = clear_is l (replicate (length (M.own l)) true) M (omega (arith, length-replicate (length (M.own l)) true))
 
 -- nothing is left
 pub clear_all_empty : (l : ℕ) (M : Meaning) (E : List ℕ) → In E ((clear_all l M).own l) → ⊥
-clear_all_empty l M E h = let (j, lj, u, e) = (clear_all_is l M).left E h in both_ways (get_or (replicate (length (M.own l)) true) j false) u (replicate_at (length (M.own l)) j true lj)
+clear_all_empty l M E h = let (j, lj, u, e) = (clear_all_is l M).left E h in both_ways (get_or (replicate (length (M.own l)) true) j false) u (get_or-replicate (length (M.own l)) j true false lj)

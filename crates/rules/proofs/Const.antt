@@ -1,6 +1,5 @@
 -- const_simplify keeps what is kept. Assumes nothing.
 use Rattle.std.proofs.Common.{◌≡◌, ℕ, zero, suc, ◌+◌, ◌*◌, ◌<◌, ◌≤◌, Bool, true, false, cond, not, eqb, ltb, ◌⊎◌, List, [], ◌∷◌, ◌++◌, map, length, get_or, Some, None, Option, sym, refl, ap, ◌∙◌, subst, inl, inr, ⊎_elim, append_assoc, arith}
-use mathlib.Core.Path.{fun_ext}
 use Rattle.std.proofs.lemmas.Bool.{cases_eq, cases_lt, cases_Bool, cond_both, both_ways, eqb-true, eqb-false, ltb-false}
 use Rattle.network.specs.Assignments.{Assignment, node, lit, holds}
 use Rattle.network.specs.Lists.{In}
@@ -8,7 +7,7 @@ use Rattle.network.specs.Levels.{Below}
 use Rattle.network.specs.Networks.{Network, level}
 use Rattle.network.specs.Clauses.{Ordered, Subsumes, owner, has, last}
 use Rattle.network.proofs.Literals.{lit_agree}
-use Rattle.network.proofs.Lists.{in_left, in_cases, any_some, any_from}
+use Rattle.network.proofs.Lists.{in_left, any_some, any_from}
 use Rattle.network.proofs.Networks.{clause_at}
 use Rattle.network.specs.Values.{Values, nothing, with_value, sign, flipped, unit_of, literal, kept_literal, simplified}
 use Rattle.rules.specs.Kept.{Kept}
@@ -19,18 +18,20 @@ use Rattle.rules.specs.Work.{Work, storing, valuing, each, known_by, clear, clea
 use Rattle.rules.proofs.Plain.{add_simplified, add, judged_by, judged, const_node, const_simplify}
 use Rattle.rules.specs.Const.{goes, shrinks, stays, fate_of, marking, if_known, const_drop}
 use Rattle.rules.proofs.Kept.{well, known, with_here, with_apart, unit_holds}
-use Rattle.rules.proofs.Simplified.{Short, says_at, simplified_some, simplified_none, simplified_ordered, unit_is, unit_true}
+use Rattle.rules.proofs.Simplified.{Short, says_at, simplified_some, simplified_none, unit_is, unit_true}
 use Rattle.rules.proofs.Enter.{Plus}
-use Rattle.rules.proofs.Drops.{not_nil, swap_kept}
+use Rattle.rules.proofs.Drops.{not_nil, PartAt, swap_kept}
 use Rattle.rules.proofs.Verdicts.{owner_last, last_in}
-use Rattle.rules.proofs.Places.{in_at, at_in, at_past, held_in, in_held, held_old, placed_changed}
-use Rattle.rules.proofs.Index.{entered_own, entered_apart, append_length, append_below}
-use Rattle.rules.proofs.Clear.{Left, Cleared, clear_is, clear_all_is, clear_all_empty, replicate_length}
-use Rattle.rules.proofs.Adds.{entered_plus}
+use Rattle.rules.proofs.Places.{in_at, at_in, held_in, in_held, held_old}
+use Rattle.rules.proofs.Index.{entered_own, entered_apart}
+use Rattle.rules.proofs.Clear.{Left, Cleared, clear_is, clear_all_is, clear_all_empty}
+use Rattle.rules.proofs.Adds.{entered_plus, entered_placed}
 use Rattle.rules.proofs.Plus.{plus, plus_own, plus_unit, plus_cases, plus_kept, minus_kept, reason_drop, unit_owner}
 use Rattle.rules.proofs.Facts.{none_some}
+use Rattle.rules.proofs.Lives.{clear_part}
 use Rattle.network.proofs.Ordered.{ordered_once, ordered_within}
-use Rattle.std.proofs.lemmas.List.{append-nil}
+use Rattle.std.proofs.lemmas.List.{append-nil, get_or_append_left, get_or_past, length-append, length-replicate}
+use Rattle.network.proofs.Values.{simplified_ordered}
 
 -- a clause of unvalued literals stays as it is
 simplified_same : (V : Values) (S : List ℕ) → ((l : ℕ) → In l S → V (node l) ≡ None) → simplified V S ≡ Some S
@@ -94,7 +95,7 @@ unit_node k true S e = (2 * k, subst (In (2 * k)) (sym e) (inl refl), omega arit
 unit_node k false S e = (2 * k + 1, subst (In (2 * k + 1)) (sym e) (inl refl), omega arith)
 
 mark_below : (marks : List Bool) (j : ℕ) → get_or marks j false ≡ true → j < length marks
-mark_below marks j e = ⊎_elim (λ l. l) (λ l. absurd (both_ways (get_or marks j false) (at_past marks j false l) e)) (cases_lt j (length marks))
+mark_below marks j e = grind (arith, get_or_past marks j false, cases_lt j (length marks))
 
 -- what a node's turn leaves alone
 pub record Turn (m : ℕ) (W N : Work) : Type 0 where
@@ -116,11 +117,7 @@ turn_then m W N R p q = record {
 
 -- where the node has no value at the end, nothing has changed
 turn_path : (m : ℕ) (W N : Work) → Turn m W N → N.values m ≡ None → N.values ≡ W.values
-turn_path m W N t u = fun_ext (λ k. ⊎_elim (λ e. subst (λ g. N.values g ≡ W.values g) (sym e) (u ∙ sym (before (known (W.values m))))) (t.values k) (cases_eq k m))
-  where
-    before : (W.values m ≡ None) ⊎ ((b : Bool) × (W.values m ≡ Some b)) → W.values m ≡ None
-    before (inl e) = e
-    before (inr (b, e)) = absurd (none_some b (sym u ∙ t.grow m b e))
+turn_path m W N t u = grind (arith, known (W.values m), t.values, cases_eq, none_some, t.grow m)
 
 module _ (first : Network) (n : ℕ) (gone frozen : Assignment) where
   pub record Consting (W : Work) : Type 0 where
@@ -139,9 +136,6 @@ module _ (first : Network) (n : ℕ) (gone frozen : Assignment) where
     not_gone : (l : ℕ) (C : List ℕ) → In C (W.store.own l) → (x : ℕ) → In x C → gone (node x) ≡ false
     not_gone l C i x j = ⊎_elim (λ g. absurd (c.kc.absent (node x) g (node l) C (in_plus l C i) x j refl)) (λ g. g) (cases_Bool (gone (node x)))
 
-    own_owner : (l : ℕ) (C : List ℕ) → In C (W.store.own l) → owner C ≡ node l
-    own_owner l C i = c.kc.clauses.owned (node l) C (in_plus l C i)
-
     pub last_here : (l : ℕ) (C : List ℕ) → In C (W.store.own l) → In (last C) C
     last_here l C i = last_in C (not_nil first P n nothing gone frozen c.kc (node l) C (in_plus l C i))
 
@@ -150,7 +144,7 @@ module _ (first : Network) (n : ℕ) (gone frozen : Assignment) where
       abbrev V : Values
       V = W.values
 
-      sh : Short V C (Some S)
+      sh : Short V C S
       sh = simplified_some W.values C S e
 
       abbrev N : Work
@@ -182,8 +176,7 @@ module _ (first : Network) (n : ℕ) (gone frozen : Assignment) where
       short_consting : Consting N
       short_consting = record {
         kc = swap_kept first P n nothing gone frozen c.kc (plus (held (entered S W.store)) (known_by S W.values) gone) added kept_old;
-        placed = placed_changed W.store (entered S W.store) (last S) (entered_apart W.store S)
-            (λ E h. ⊎_elim (c.placed (last S) E) (λ j. ap last (⊎_elim (λ q. q) absurd j)) (in_cases E (W.store.own (last S)) (S ∷ []) (subst (In E) (entered_own W.store S) h))) c.placed;
+        placed = entered_placed W.store S c.placed;
         valued = λ k b u. ⊎_elim (c.valued k b) (λ q. let (x, h, w) = unit_node k b S q in
             omega (arith, well first P n nothing gone frozen c.kc (node l) C (in_plus l C i) x (sh.0 x h).0, c.kc.clauses.small (node l) C (in_plus l C i), w)) (known_cases S W.values k b u);
         old = λ σ s k b g u. ⊎_elim (c.old σ s k b g) (λ q. let (x, h, w) = unit_node k b S q in
@@ -193,18 +186,18 @@ module _ (first : Network) (n : ℕ) (gone frozen : Assignment) where
           p : Plus (held W.store) (held (entered S W.store)) S
           p = entered_plus W.store S
 
-          new_one : (k : ℕ) (E : List ℕ) → E ≡ S → owner S ≡ k → (D : List ℕ) × In D (P k) × Subsumes E D × Ordered E × (owner E ≡ k) × ((m : ℕ) × ((σ : Assignment) → Below (level P) m σ → holds σ E ≡ true))
-          new_one k E q w = (
-            C,
-            subst (λ g. In C (P g)) (sym owner_S ∙ w) (in_plus l C i),
-            (λ x h. (sh.0 x (subst (In x) q h)).0),
-            subst Ordered (sym q) (simplified_ordered W.values C S e (c.kc.clauses.order (node l) C (in_plus l C i))),
-            ap owner q ∙ w,
-            (suc (node l), λ σ s. ap (holds σ) q ∙ implied σ s),
-          )
+          new_one : (k : ℕ) (E : List ℕ) → E ≡ S → owner S ≡ k → PartAt P k E
+          new_one k E q w = subst (PartAt P k) (sym q) (record {
+            whole = C;
+            at = subst (λ g. In C (P g)) (sym owner_S ∙ w) (in_plus l C i);
+            part = λ x h. (sh.0 x h).0;
+            order = simplified_ordered W.values C S (c.kc.clauses.order (node l) C (in_plus l C i)) e;
+            owned = w;
+            implied = (suc (node l), implied);
+          })
 
           added : (k : ℕ) (E : List ℕ) → In E (plus (held (entered S W.store)) (known_by S W.values) gone k)
-              → In E (P k) ⊎ ((D : List ℕ) × In D (P k) × Subsumes E D × Ordered E × (owner E ≡ k) × ((m : ℕ) × ((σ : Assignment) → Below (level P) m σ → holds σ E ≡ true)))
+              → In E (P k) ⊎ PartAt P k E
           added k E h = ⊎_elim (λ j. ⊎_elim (λ o. inl (plus_own (held W.store) W.values gone k E o)) (λ (q, w). inr (new_one k E q w)) (p.cases k E j))
               (λ (b, g, u, q). ⊎_elim (λ v. inl (subst (λ D. In D (P k)) (sym q) (plus_unit (held W.store) W.values gone k b g v)))
               (λ v. inr (new_one k E (q ∙ sym v) (ap owner v ∙ unit_owner k b))) (known_cases S W.values k b u)) (plus_cases (held (entered S W.store)) (known_by S W.values) gone k E h)
@@ -231,14 +224,10 @@ module _ (first : Network) (n : ℕ) (gone frozen : Assignment) where
     -- marked clauses of own l go, each for a reason
     module _ (l : ℕ) (marks : List Bool) (le : length marks ≤ length (W.store.own l))
         (why : (j : ℕ) → j < length (W.store.own l) → get_or marks j false ≡ true → Reason W.values (get_or (W.store.own l) j [])) where
-      clear_part : (k : ℕ) (E : List ℕ) → In E ((clear l marks W.store).own k) → In E (W.store.own k)
-      clear_part k E h = ⊎_elim (λ e. subst (λ g. In E (W.store.own g)) (sym e) (let (j, lj, u, q) = (clear_is l marks W.store le).left E (subst (λ g. In E ((clear l marks W.store).own g)) e h) in subst (λ D. In D (W.store.own l)) q (in_at (W.store.own l) j [] lj)))
-          (λ a. subst (In E) ((clear_is l marks W.store le).apart k a) h) (cases_eq k l)
-
       cleared_consting : Consting (storing W (clear l marks W.store))
       cleared_consting = record {
         kc = reason_drop first P n gone frozen c.kc (plus (held (clear l marks W.store)) W.values gone) part lost;
-        placed = λ k E h. c.placed k E (clear_part k E h);
+        placed = λ k E h. c.placed k E (clear_part l marks W.store k E h);
         valued = c.valued;
         old = c.old;
       }
@@ -247,7 +236,7 @@ module _ (first : Network) (n : ℕ) (gone frozen : Assignment) where
           M = clear l marks W.store
 
           part : (k : ℕ) (E : List ℕ) → In E (plus (held M) W.values gone k) → In E (P k)
-          part k E h = ⊎_elim (λ j. let (g, q, o) = in_held M k E j in subst (λ g. In E (P g)) q (in_plus g E (clear_part g E o)))
+          part k E h = ⊎_elim (λ j. let (g, q, o) = in_held M k E j in subst (λ g. In E (P g)) q (in_plus g E (clear_part l marks W.store g E o)))
               (λ (b, g, u, q). subst (λ D. In D (P k)) (sym q) (plus_unit (held W.store) W.values gone k b g u)) (plus_cases (held M) W.values gone k E h)
 
           by_reason : (E : List ℕ) → In E (W.store.own l) → Reason W.values E → ((B : List ℕ) × In B (plus (held M) W.values gone (owner B)) × Subsumes B E) ⊎ ((b : Bool) × In (unit_of (node l) b) (plus (held M) W.values gone (node l)))
@@ -286,72 +275,56 @@ module _ (first : Network) (n : ℕ) (gone frozen : Assignment) where
     pub new_ones : (E : List ℕ) → In E ext → N.values (node l) ≡ None → simplified N.values E ≡ Some E
 
   module _ (l : ℕ) (C : List ℕ) (Cs : List (List ℕ)) (marks : List Bool) where
-    judged_goes : (W N : Work) → Judging l Cs marks W N → Reason W.values C → Judging l (C ∷ Cs) (true ∷ marks) W N
-    judged_goes W N J r = record {
+    -- one clause more in front: what is known of it, marked or not
+    judged_more : (b : Bool) (W N : Work) (J : Judging l Cs marks W N) → (b ≡ true → Reason N.values C)
+        → (b ≡ false → N.values (node l) ≡ None → (S : List ℕ) × (simplified N.values C ≡ Some S) × ((S ≡ C) ⊎ In S J.ext)) → Judging l (C ∷ Cs) (b ∷ marks) W N
+    judged_more b W N J r s = record {
       cons = J.cons;
       turn = J.turn;
       ext = J.ext;
       lists = J.lists;
       others = J.others;
       len = ap suc J.len;
-      gone_ones = λ j. at j;
-      left_ones = λ j. left j;
+      gone_ones = at;
+      left_ones = left;
       new_ones = J.new_ones;
     }
       where
-        at : (j : ℕ) → j < suc (length Cs) → get_or (true ∷ marks) j false ≡ true → Reason N.values (get_or (C ∷ Cs) j [])
-        at zero lj t = reason_grow W.values N.values J.turn.grow C r
+        at : (j : ℕ) → j < suc (length Cs) → get_or (b ∷ marks) j false ≡ true → Reason N.values (get_or (C ∷ Cs) j [])
+        at zero lj t = r t
         at (suc j) lj t = J.gone_ones j (omega arith) t
 
-        left : (j : ℕ) → j < suc (length Cs) → get_or (true ∷ marks) j false ≡ false → N.values (node l) ≡ None → (S : List ℕ) × (simplified N.values (get_or (C ∷ Cs) j []) ≡ Some S) × ((S ≡ get_or (C ∷ Cs) j []) ⊎ In S J.ext)
-        left zero lj f = absurd (both_ways true f refl)
+        left : (j : ℕ) → j < suc (length Cs) → get_or (b ∷ marks) j false ≡ false → N.values (node l) ≡ None → (S : List ℕ) × (simplified N.values (get_or (C ∷ Cs) j []) ≡ Some S) × ((S ≡ get_or (C ∷ Cs) j []) ⊎ In S J.ext)
+        left zero lj f = s f
         left (suc j) lj f = J.left_ones j (omega arith) f
 
-    judged_stays : (W N : Work) → Judging l Cs marks W N → simplified W.values C ≡ Some C → Judging l (C ∷ Cs) (false ∷ marks) W N
-    judged_stays W N J r = record {
-      cons = J.cons;
-      turn = J.turn;
-      ext = J.ext;
-      lists = J.lists;
-      others = J.others;
-      len = ap suc J.len;
-      gone_ones = λ j. at j;
-      left_ones = λ j. left j;
-      new_ones = J.new_ones;
-    }
-      where
-        at : (j : ℕ) → j < suc (length Cs) → get_or (false ∷ marks) j false ≡ true → Reason N.values (get_or (C ∷ Cs) j [])
-        at zero lj t = absurd (both_ways false refl t)
-        at (suc j) lj t = J.gone_ones j (omega arith) t
+    judged_goes : (W N : Work) → Judging l Cs marks W N → Reason W.values C → Judging l (C ∷ Cs) (true ∷ marks) W N
+    judged_goes W N J r = judged_more true W N J (λ t. reason_grow W.values N.values J.turn.grow C r) (λ f. absurd (both_ways true f refl))
 
-        left : (j : ℕ) → j < suc (length Cs) → get_or (false ∷ marks) j false ≡ false → N.values (node l) ≡ None → (S : List ℕ) × (simplified N.values (get_or (C ∷ Cs) j []) ≡ Some S) × ((S ≡ get_or (C ∷ Cs) j []) ⊎ In S J.ext)
-        left zero lj f u = (C, ap (λ V. simplified V C) (turn_path (node l) W N J.turn u) ∙ r, inl refl)
-        left (suc j) lj f u = J.left_ones j (omega arith) f u
+    judged_stays : (W N : Work) → Judging l Cs marks W N → simplified W.values C ≡ Some C → Judging l (C ∷ Cs) (false ∷ marks) W N
+    judged_stays W N J r = judged_more false W N J (λ t. absurd (both_ways false refl t)) (λ f u. (C, ap (λ V. simplified V C) (turn_path (node l) W N J.turn u) ∙ r, inl refl))
 
     judged_shrinks : (W : Work) (c : Consting W) (S : List ℕ) (i : In C (W.store.own l)) (e : simplified W.values C ≡ Some S) (ls : last S ≡ last C) (N : Work)
         → Judging l Cs marks (valuing (storing W (entered S W.store)) (known_by S W.values)) N → Judging l (C ∷ Cs) (false ∷ marks) W N
-    judged_shrinks W c S i e ls N J = record {
-      cons = J.cons;
-      turn = both;
-      ext = S ∷ J.ext;
-      lists = J.lists ∙ ap (λ xs. xs ++ J.ext) (short_own W c l C S i e ls) ∙ append_assoc (W.store.own l) (S ∷ []) J.ext;
-      others = λ k a. J.others k a ∙ short_others W c l C S i e ls k a;
-      len = ap suc J.len;
-      gone_ones = λ j. at j;
-      left_ones = λ j. left j;
-      new_ones = λ E h u. ⊎_elim (λ q. subst (λ D. simplified N.values D ≡ Some D) (sym q) (ap (λ V. simplified V S) (turn_path (node l) W N both u) ∙ simplified_same W.values S (λ x m. ((simplified_some W.values C S e).0 x m).1))) (λ j. J.new_ones E j u) h;
-    }
+    judged_shrinks W c S i e ls N J =
+        judged_more false W N entered_first (λ t. absurd (both_ways false refl t)) (λ f u. (S, ap (λ V. simplified V C) (turn_path (node l) W N both u) ∙ e, inr (inl refl)))
       where
         both : Turn (node l) W N
         both = turn_then (node l) W (valuing (storing W (entered S W.store)) (known_by S W.values)) N (short_turn W c l C S i e ls) J.turn
 
-        at : (j : ℕ) → j < suc (length Cs) → get_or (false ∷ marks) j false ≡ true → Reason N.values (get_or (C ∷ Cs) j [])
-        at zero lj t = absurd (both_ways false refl t)
-        at (suc j) lj t = J.gone_ones j (omega arith) t
-
-        left : (j : ℕ) → j < suc (length Cs) → get_or (false ∷ marks) j false ≡ false → N.values (node l) ≡ None → (T : List ℕ) × (simplified N.values (get_or (C ∷ Cs) j []) ≡ Some T) × ((T ≡ get_or (C ∷ Cs) j []) ⊎ In T (S ∷ J.ext))
-        left zero lj f u = (S, ap (λ V. simplified V C) (turn_path (node l) W N both u) ∙ e, inr (inl refl))
-        left (suc j) lj f u = let (T, p, q) = J.left_ones j (omega arith) f u in (T, p, ⊎_elim inl (λ h. inr (inr h)) q)
+        -- the others, with S entered before them
+        entered_first : Judging l Cs marks W N
+        entered_first = record {
+          cons = J.cons;
+          turn = both;
+          ext = S ∷ J.ext;
+          lists = J.lists ∙ ap (λ xs. xs ++ J.ext) (short_own W c l C S i e ls) ∙ append_assoc (W.store.own l) (S ∷ []) J.ext;
+          others = λ k a. J.others k a ∙ short_others W c l C S i e ls k a;
+          len = J.len;
+          gone_ones = J.gone_ones;
+          left_ones = λ j lj f u. let (T, p, q) = J.left_ones j lj f u in (T, p, ⊎_elim inl (λ h. inr (inr h)) q);
+          new_ones = λ E h u. ⊎_elim (λ q. subst (λ D. simplified N.values D ≡ Some D) (sym q) (ap (λ V. simplified V S) (turn_path (node l) W N both u) ∙ simplified_same W.values S (λ x m. ((simplified_some W.values C S e).0 x m).1))) (λ j. J.new_ones E j u) h;
+        }
 
   abbrev pub JudgedAs : ℕ → List (List ℕ) → Work → List Bool × Work → Type 0
   JudgedAs l Cs W r = Judging l Cs r.0 W r.1
@@ -360,7 +333,7 @@ module _ (first : Network) (n : ℕ) (gone frozen : Assignment) where
   last_false : (W : Work) (c : Consting W) (l : ℕ) (C S : List ℕ) → In C (W.store.own l) → simplified W.values C ≡ Some S → (last S ≡ last C → ⊥) → literal W.values (last C) ≡ Some false
   last_false W c l C S i e a = ⊎_elim (λ h. absurd (a (same h))) (λ f. f) (sh.1 (last C) (last_here W c l C i))
     where
-      sh : Short W.values C (Some S)
+      sh : Short W.values C S
       sh = simplified_some W.values C S e
 
       oC : Ordered C
@@ -369,7 +342,7 @@ module _ (first : Network) (n : ℕ) (gone frozen : Assignment) where
       same : In (last C) S → last S ≡ last C
       same h =
           let m : In (last S) S = last_in S (λ q. subst (In (last C)) q h) in
-          let oS = simplified_ordered W.values C S e oC in
+          let oS = simplified_ordered W.values C S oC e in
           ordered_once C oC (last S) (last C) (sh.0 (last S) m).0 (last_here W c l C i)
           (omega (arith, ordered_within S oS (last C) h, owner_last S, ordered_within C oC (last S) (sh.0 (last S) m).0, owner_last C))
 
@@ -421,8 +394,8 @@ module _ (first : Network) (n : ℕ) (gone frozen : Assignment) where
       at S h =
           let (t, lt, q) = at_in J.ext S [] h in (
             length Cs + t,
-            subst (λ xs. length Cs + t < length xs) (sym o) (omega (arith, append_length Cs J.ext)),
-            at_past marks (length Cs + t) false (omega (arith, J.len)),
+            subst (λ xs. length Cs + t < length xs) (sym o) (omega (arith, length-append Cs J.ext)),
+            get_or_past marks (length Cs + t) false (omega (arith, J.len)),
             ap (λ xs. get_or xs (length Cs + t) []) o ∙ append_past Cs J.ext t ∙ q,
           )
         where
@@ -433,7 +406,7 @@ module _ (first : Network) (n : ℕ) (gone frozen : Assignment) where
       old_one : j < length Cs → (S : List ℕ) × (simplified V E ≡ Some S) × Left marks own S
       old_one l₁ =
           let (S, p, q) = J.left_ones j l₁ f u in
-          let w : get_or Cs j [] ≡ E = sym (ap (λ xs. get_or xs j []) o ∙ append_below Cs J.ext j [] l₁) ∙ e in
+          let w : get_or Cs j [] ≡ E = sym (ap (λ xs. get_or xs j []) o ∙ get_or_append_left Cs J.ext [] j l₁) ∙ e in
           (S, ap (λ X. simplified X E) (sym v) ∙ ap (simplified N.values) (sym w) ∙ p, ⊎_elim (λ z. (j, lj, f, e ∙ sym w ∙ sym z)) (at S) q)
 
       new_one : length Cs ≤ j → (S : List ℕ) × (simplified V E ≡ Some S) × Left marks own S
@@ -481,12 +454,12 @@ module _ (first : Network) (n : ℕ) (gone frozen : Assignment) where
     own1 = J1.lists ∙ ap (λ xs. xs ++ J1.ext) (J0.others l1 (λ q. omega (arith, q)))
 
     le0 : length r0.0 ≤ length (r1.1.store.own l0)
-    le0 = omega (arith, ap length own0, append_length (W.store.own l0) J0.ext, J0.len)
+    le0 = omega (arith, ap length own0, length-append (W.store.own l0) J0.ext, J0.len)
 
     why0 : (j : ℕ) → j < length (r1.1.store.own l0) → get_or r0.0 j false ≡ true → Reason r1.1.values (get_or (r1.1.store.own l0) j [])
     why0 j lj t =
         let lj' : j < length (W.store.own l0) = omega (arith, mark_below r0.0 j t, J0.len) in
-        subst (Reason r1.1.values) (sym (ap (λ xs. get_or xs j []) own0 ∙ append_below (W.store.own l0) J0.ext j [] lj'))
+        subst (Reason r1.1.values) (sym (ap (λ xs. get_or xs j []) own0 ∙ get_or_append_left (W.store.own l0) J0.ext [] j lj'))
         (reason_grow r0.1.values r1.1.values J1.turn.grow (get_or (W.store.own l0) j []) (J0.gone_ones j lj' t))
 
     abbrev W3 : Work
@@ -502,12 +475,12 @@ module _ (first : Network) (n : ℕ) (gone frozen : Assignment) where
     own3 = cl0.apart l1 (λ q. omega (arith, q)) ∙ own1
 
     le1 : length r1.0 ≤ length (W3.store.own l1)
-    le1 = omega (arith, ap length own3, append_length (W.store.own l1) J1.ext, J1.len)
+    le1 = omega (arith, ap length own3, length-append (W.store.own l1) J1.ext, J1.len)
 
     why1 : (j : ℕ) → j < length (W3.store.own l1) → get_or r1.0 j false ≡ true → Reason W3.values (get_or (W3.store.own l1) j [])
     why1 j lj t =
         let lj' : j < length (W.store.own l1) = omega (arith, mark_below r1.0 j t, J1.len) in
-        subst (Reason r1.1.values) (sym (ap (λ xs. get_or xs j []) own3 ∙ append_below (W.store.own l1) J1.ext j [] lj')) (J1.gone_ones j lj' t)
+        subst (Reason r1.1.values) (sym (ap (λ xs. get_or xs j []) own3 ∙ get_or_append_left (W.store.own l1) J1.ext [] j lj')) (J1.gone_ones j lj' t)
 
     abbrev M4 : Meaning
     M4 = clear l1 r1.0 W3.store
@@ -596,7 +569,7 @@ module _ (first : Network) (n : ℕ) (gone frozen : Assignment) where
 
     all_consting : Consting (storing W (clear_all l W.store))
     unfolding clear_all
-    all_consting = cleared_consting W c l _ (omega (arith, replicate_length (length (W.store.own l)) true)) (λ j lj t. why_all j lj)
+    all_consting = cleared_consting W c l _ (omega (arith, length-replicate (length (W.store.own l)) true)) (λ j lj t. why_all j lj)
 
   record Dropped (i t : ℕ) (W N : Work) : Type 0 where
     cons : Consting N
@@ -737,6 +710,3 @@ module _ (first : Network) (W : Work) (G : Good first W) where
     small = omega (arith, d.tops.0 ∙ p.tops.0, G.small);
     zero_value = zero_val;
   })
-
-  pub const_nodes : ((const_simplify W).top ≡ W.top) × ((const_simplify W).frozen ≡ W.frozen)
-  const_nodes = (ap (λ N. N.top) final_is ∙ d.tops.0 ∙ p.tops.0, ap (λ N. N.frozen) final_is ∙ d.tops.2 ∙ p.tops.2)

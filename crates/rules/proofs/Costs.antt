@@ -1,16 +1,15 @@
 -- How large things get over any lawful store. Assumes nothing.
-use Rattle.std.proofs.Common.{◌≡◌, ℕ, zero, suc, ◌+◌, ◌*◌, ◌≤◌, Bool, true, false, not, ltb, List, [], ◌∷◌, length, get_or, Some, None, Option, sym, ◌∙◌, subst, ⊎_elim, arith}
-use Rattle.std.proofs.lemmas.Bool.{cond_both, and_parts, not-true, ltb-true}
+use Rattle.std.proofs.Common.{◌≡◌, ℕ, zero, suc, not, List, [], ◌∷◌, sym, ◌∙◌, subst, ⊎_elim, arith}
+use Rattle.std.proofs.lemmas.Bool.{cond_both, and_parts, not-true}
 use Rattle.network.specs.Lists.{In}
-use Rattle.network.specs.Values.{simplified}
-use Rattle.network.specs.Lemmas.{lemmas}
-use Rattle.rules.specs.Store.{Meaning, up_to, live_clauses, swap_out, entered, removed, enterable, enter, index_on}
+use Rattle.rules.specs.Store.{up_to, entered, enterable, enter, index_on}
 use Rattle.rules.specs.Index.{Indexed}
 use Rattle.rules.specs.Lawful.{Lawful}
-use Rattle.rules.specs.Work.{Work, storing, each, literals_of, add_simplified, add, cleared, clear, clear_all}
-use Rattle.rules.specs.Bve.{all_resolvents, use_count, use_marks, uses_cleared, taken_out, eliminated, passed_over, given_up, attempted, attempt, least, but}
+use Rattle.rules.specs.Work.{Work, storing, add}
+use Rattle.rules.specs.Bve.{all_resolvents, use_count, passed_over, given_up, attempt, least, but}
 use Rattle.rules.specs.Turns.{Turn, attempt_turns, bve_turns}
 use Rattle.rules.specs.Sizes.{SizesSmall}
+use Rattle.rules.proofs.Along.{stays_chains, allowed_along, entry_cases, Steps, attempt_along}
 use Rattle.rules.proofs.Index.{removed_indexed, entered_indexed, index_on_indexed}
 use Rattle.rules.proofs.Formed.{formed_parts}
 use Rattle.rules.proofs.Passes.{index_on_keeps, attempt_keeps, counts_small}
@@ -18,51 +17,17 @@ use Rattle.rules.proofs.Sizes.{subsume_fewer, words_few}
 use Rattle.rules.proofs.Shrinks.{cost_live}
 use Rattle.rules.proofs.Unrefused.{kept_few}
 
-cleared_indexed : (f l i : ℕ) (marks : List Bool) (M : Meaning) → Indexed M → Indexed (cleared f l i marks M)
-unfolding cleared
-cleared_indexed zero l i marks M I = I
-cleared_indexed (suc f) l i marks M I = cond_both (ltb i (length (M.own l))) _ M Indexed
-    (λ e. cond_both (get_or marks i false) (cleared f l i (swap_out false i marks) (removed l i M)) (cleared f l (suc i) marks M) Indexed
-    (λ t. cleared_indexed f l i (swap_out false i marks) (removed l i M) (removed_indexed M l i I (ltb-true i (length (M.own l)) e))) (λ t. cleared_indexed f l (suc i) marks M I))
-    (λ e. I)
-
-clear_indexed : (l : ℕ) (marks : List Bool) (M : Meaning) → Indexed M → Indexed (clear l marks M)
-unfolding clear
-clear_indexed l marks M I = cleared_indexed (length (M.own l)) l 0 _ M I
-
-clear_all_indexed : (l : ℕ) (M : Meaning) → Indexed M → Indexed (clear_all l M)
-unfolding clear_all
-clear_all_indexed l M I = clear_indexed l _ M I
-
-sweep_indexed : (n : ℕ) (ls : List ℕ) (M : Meaning) → Indexed M → Indexed (each (λ l M. clear l (use_marks M n l) M) ls M)
-sweep_indexed n [] M I = I
-sweep_indexed n (l ∷ ls) M I = sweep_indexed n ls (clear l (use_marks M n l) M) (clear_indexed l (use_marks M n l) M I)
-
-taken_out_indexed : (n : ℕ) (W : Work) → Indexed W.store → Indexed (taken_out n W).store
-unfolding taken_out
-taken_out_indexed n W I = clear_all_indexed (2 * n + 1) (clear_all (2 * n) (uses_cleared n W)) (clear_all_indexed (2 * n) (uses_cleared n W) (sweep_indexed n (literals_of W) W.store I))
-
-enter_indexed : (C : List ℕ) (M : Meaning) → Indexed M → Indexed (enter C M).0
-unfolding enter
-enter_indexed C M I = cond_both {A = Meaning × Bool} (enterable M C) (entered C M, true) (M, false) (λ r. Indexed r.0) (λ e. entered_indexed M C I) (λ e. I)
-
+-- an index stays
 add_indexed : (C : List ℕ) (W : Work) → Indexed W.store → Indexed (add C W).store
-unfolding add
-add_indexed C W I = go (simplified W.values C)
-  where
-    go : (o : Option (List ℕ)) → Indexed (add_simplified o W).store
-    go None = I
-    go (Some S) = enter_indexed S W.store I
+unfolding enter
+add_indexed C W I = entry_cases C W (λ N. Indexed N.store) I
+    (λ S e. allowed_along (λ M N. Indexed M → Indexed N) (stays_chains Indexed) (enterable W.store S) W.store (entered S W.store) (λ e. entered_indexed W.store S) I)
 
-adds_indexed : (Cs : List (List ℕ)) (W : Work) → Indexed W.store → Indexed (each add Cs W).store
-adds_indexed [] W I = I
-adds_indexed (C ∷ Cs) W I = adds_indexed Cs (add C W) (add_indexed C W I)
+indexed_steps : Steps (λ W N. Indexed W.store → Indexed N.store)
+indexed_steps = record { chains = stays_chains (λ W. Indexed W.store); enters = add_indexed; removes = λ l i W h I. removed_indexed W.store l i I h; takes = λ n W I. I }
 
 attempt_indexed : (n : ℕ) (W : Work) → Indexed W.store → Indexed (attempt n W).store
-unfolding attempt eliminated
-attempt_indexed n W I = cond_both (passed_over W n) W (attempted n (all_resolvents W.store n) W) (λ N. Indexed N.store) (λ e. I)
-    (λ e. cond_both (given_up W n (all_resolvents W.store n)) W (eliminated n (all_resolvents W.store n) W) (λ N. Indexed N.store) (λ f. I)
-    (λ f. adds_indexed (lemmas (all_resolvents W.store n)) (taken_out n W) (taken_out_indexed n W I)))
+attempt_indexed = attempt_along (λ W N. Indexed W.store → Indexed N.store) indexed_steps
 
 -- a work met in the pass
 record Met (r : ℕ) (W : Work) : Type 0 where
@@ -89,11 +54,8 @@ pub sizes_small : SizesSmall
 sizes_small = record {
   counts = counts_small;
   costs = λ W L t i. let m = bve_met W L t i in cost_live t.before.store m.lawful m.index t.at;
-  lives = λ W L t i. let m = bve_met W L t i in sums (live_clauses t.before.store) t.before.store.dead_clauses t.before.store.room W.store.room m.lawful.within m.room;
+  lives = λ W L t i. let m = bve_met W L t i in omega (arith, m.lawful.within, m.room);
   few = λ W n e. (kept_few W n (not-true (given_up W n (all_resolvents W.store n)) (and_parts (not (passed_over W n)) (not (given_up W n (all_resolvents W.store n))) e).1)).1;
   subsumed = subsume_fewer;
   words = words_few;
 }
-  where
-    sums : (a d r q : ℕ) → a + d ≤ r → r ≡ q → a ≤ q
-    sums a d r q p e = omega arith

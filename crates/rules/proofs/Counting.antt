@@ -1,21 +1,23 @@
 -- An elimination enters no more clauses than it removes. Assumes nothing.
-use Rattle.std.proofs.Common.{◌≡◌, ℕ, zero, suc, ◌+◌, ◌-◌, ◌*◌, ◌<◌, ◌≤◌, Bool, false, not, eqb, ltb, ◌⊎◌, List, [], ◌∷◌, length, get_or, filter, sym, refl, ap, ◌∙◌, subst, inl, inr, ⊎_elim, arith}
-use Rattle.std.proofs.lemmas.Bool.{cases_eq, cases_Bool, cond_both, both_ways, ltb-true, eq-eqb}
+use Rattle.std.proofs.Common.{◌≡◌, ℕ, suc, ◌+◌, ◌-◌, ◌*◌, ◌<◌, ◌≤◌, not, eqb, ◌⊎◌, List, [], length, get_or, filter, sym, refl, ap, ◌∙◌, subst, inl, inr, ⊎_elim, arith}
+use Rattle.std.proofs.lemmas.Bool.{cases_eq, cases_Bool, both_ways, eq-eqb}
+use Rattle.std.proofs.lemmas.List.{length-map}
 use Rattle.network.specs.Assignments.{node}
 use Rattle.network.specs.Lists.{In}
 use Rattle.network.specs.Clauses.{Ordered, has, last, front}
 use Rattle.network.proofs.Lists.{any_from, has_in}
 use Rattle.network.proofs.Ordered.{ordered_once}
-use Rattle.rules.specs.Store.{Meaning, is_at, how_many, live_clauses, moved_ref, removed, swap_out}
+use Rattle.rules.specs.Store.{Meaning, is_at, how_many, live_clauses, moved_ref, removed}
 use Rattle.rules.specs.Held.{Placed}
 use Rattle.rules.specs.Index.{Indexed}
-use Rattle.rules.specs.Work.{Work, each, cleared, clear, clear_all, literals_of}
-use Rattle.rules.specs.Bve.{cost, use_marks, uses_cleared, taken_out}
+use Rattle.rules.specs.Work.{Work}
+use Rattle.rules.specs.Bve.{cost, taken_out}
 use Rattle.rules.proofs.Places.{in_at}
 use Rattle.rules.proofs.Index.{removed_apart, removed_length, removed_indexed}
 use Rattle.rules.proofs.TakenOut.{front_in}
 use Rattle.rules.proofs.Formed.{front_below}
-use Rattle.rules.proofs.HowMany.{kept_length, map_length, count_none}
+use Rattle.rules.proofs.HowMany.{kept_length, count_none}
+use Rattle.rules.proofs.Along.{Chains, taken_out_along}
 use Rattle.rules.proofs.Once.{Once, is_at_of, removed_once}
 use Rattle.rules.proofs.Lives.{removed_live, removed_part}
 
@@ -38,24 +40,9 @@ removed_fine M l i F li = record {
   bound = λ k E h. F.bound k E (removed_part M l i k E h);
 }
 
-sum_then : (a b c x y z : ℕ) → b + x ≤ a + y → c + y ≤ b + z → c + x ≤ a + z
-sum_then a b c x y z p q = omega arith
-
-same_sum : (a x : ℕ) → a + x ≤ a + x
-same_sum a x = omega arith
-
-one_less : (a b x y : ℕ) → suc b ≡ a → x ≤ suc y → b + x ≤ a + y
-one_less a b x y p q = omega arith
-
 module _ (v : ℕ) where
   abbrev pub Less : Meaning → Meaning → Type 0
   Less M N = live_clauses N + cost M v ≤ live_clauses M + cost N v
-
-  less_then : (M N R : Meaning) → Less M N → Less N R → Less M R
-  less_then M N R a b = sum_then (live_clauses M) (live_clauses N) (live_clauses R) (cost M v) (cost N v) (cost R v) a b
-
-  less_same : (M : Meaning) → Less M M
-  less_same M = same_sum (live_clauses M) (cost M v)
 
   module _ (M : Meaning) (F : Fine M) (l i : ℕ) (li : i < length (M.own l)) where
     C : List ℕ
@@ -67,7 +54,7 @@ module _ (v : ℕ) where
 
     uses_left : (x : ℕ) → length ((removed l i M).uses x) + how_many (is_at l i) (M.uses x) ≡ length (M.uses x)
     unfolding removed
-    uses_left x = omega (arith, map_length (moved_ref l (length (M.own l) - 1) i) (filter (λ r. not (is_at l i r)) (M.uses x)), kept_length (is_at l i) (M.uses x))
+    uses_left x = omega (arith, length-map (filter (λ r. not (is_at l i r)) (M.uses x)) (moved_ref l (length (M.own l) - 1) i), kept_length (is_at l i) (M.uses x))
 
     -- a ref names the clause's literal
     counted : (x : ℕ) → (In x (front C) → ⊥) → how_many (is_at l i) (M.uses x) ≡ 0
@@ -115,45 +102,17 @@ module _ (v : ℕ) where
             (λ h. ⊎_elim (λ b. omega (arith, b, F.once (2 * v) l i, u, w, d, f)) (λ k. absurd (not_both h k)) (named_in (2 * v + 1))) (named_in (2 * v))
 
     removed_less : Less M (removed l i M)
-    removed_less = one_less (live_clauses M) (live_clauses (removed l i M)) (cost M v) (cost (removed l i M) v) (removed_live M l i (F.bound l C in_c) li) cost_less
+    removed_less = omega (arith, removed_live M l i (F.bound l C in_c) li, cost_less)
 
   -- clearing
   abbrev Fewer : Meaning → Meaning → Type 0
-  Fewer M N = Fine N × Less M N
+  Fewer M N = Fine M → Fine N × Less M N
 
-  cleared_fewer : (f l i : ℕ) (marks : List Bool) (M : Meaning) → Fine M → Fewer M (cleared f l i marks M)
-  unfolding cleared
-  cleared_fewer zero l i marks M F = (F, less_same M)
-  cleared_fewer (suc f) l i marks M F = cond_both (ltb i (length (M.own l))) _ M (Fewer M)
-      (λ e. let li = ltb-true i (length (M.own l)) e in
-      cond_both (get_or marks i false) (cleared f l i (swap_out false i marks) (removed l i M)) (cleared f l (suc i) marks M) (Fewer M)
-      (λ t. let (G, s) = cleared_fewer f l i (swap_out false i marks) (removed l i M) (removed_fine M l i F li) in
-      (G, less_then M (removed l i M) (cleared f l i (swap_out false i marks) (removed l i M)) (removed_less M F l i li) s))
-      (λ t. cleared_fewer f l (suc i) marks M F))
-      (λ e. (F, less_same M))
+  fewer : Chains Fewer
+  fewer = record {
+    same = λ M F. (F, omega arith);
+    next = λ M N R f g F. let (G, a) = f F in let (H, b) = g G in (H, omega (arith, a, b));
+  }
 
-  clear_fewer : (l : ℕ) (marks : List Bool) (M : Meaning) → Fine M → Fewer M (clear l marks M)
-  unfolding clear
-  clear_fewer l marks M F = cleared_fewer (length (M.own l)) l 0 _ M F
-
-  clear_all_fewer : (l : ℕ) (M : Meaning) → Fine M → Fewer M (clear_all l M)
-  unfolding clear_all
-  clear_all_fewer l M F = clear_fewer l _ M F
-
-  sweep_fewer : (ls : List ℕ) (M : Meaning) → Fine M → Fewer M (each (λ l M. clear l (use_marks M v l) M) ls M)
-  sweep_fewer [] M F = (F, less_same M)
-  sweep_fewer (l ∷ ls) M F =
-      let (G, s) = clear_fewer l (use_marks M v l) M F in
-      let (H, t) = sweep_fewer ls (clear l (use_marks M v l) M) G in
-      (H, less_then M (clear l (use_marks M v l) M) (each (λ l M. clear l (use_marks M v l) M) ls (clear l (use_marks M v l) M)) s t)
-
-  pub taken_out_fewer : (W : Work) → Fine W.store → Fewer W.store (taken_out v W).store
-  unfolding taken_out
-  taken_out_fewer W F =
-      let (A, a) = sweep_fewer (literals_of W) W.store F in
-      let (B, b) = clear_all_fewer (2 * v) (uses_cleared v W) A in
-      let (D, d) = clear_all_fewer (2 * v + 1) (clear_all (2 * v) (uses_cleared v W)) B in (
-        D,
-        less_then W.store (uses_cleared v W) (clear_all (2 * v + 1) (clear_all (2 * v) (uses_cleared v W))) a
-            (less_then (uses_cleared v W) (clear_all (2 * v) (uses_cleared v W)) (clear_all (2 * v + 1) (clear_all (2 * v) (uses_cleared v W))) b d),
-      )
+  pub taken_out_fewer : (W : Work) → Fewer W.store (taken_out v W).store
+  taken_out_fewer = taken_out_along Fewer fewer (λ l i M h F. (removed_fine M l i F h, removed_less M F l i h)) v

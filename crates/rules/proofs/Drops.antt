@@ -31,6 +31,15 @@ single_of y [] o s = inl refl
 single_of y (b ∷ []) o s = inr (grind (arith, s b (inl refl)))
 single_of y (b ∷ c ∷ B) (lb, o) s = absurd (grind (arith, s b (inl refl), s c (inr (inl refl)), lb c (inl refl)))
 
+-- E is part of a clause of the node k, in order and k's own, and follows
+pub record PartAt (own : Network) (k : ℕ) (E : List ℕ) : Type 0 where
+  pub whole : List ℕ
+  pub at : In whole (own k)
+  pub part : Subsumes E whole
+  pub order : Ordered E
+  pub owned : owner E ≡ k
+  pub implied : Implied own E
+
 module _ (first own : Network) (n : ℕ) (V : Values) (gone frozen : Assignment) (K : Kept first own n V gone frozen) where
   -- no clause is empty
   pub no_nil : (k : ℕ) → In [] (own k) → ⊥
@@ -49,14 +58,14 @@ module _ (first own : Network) (n : ℕ) (V : Values) (gone frozen : Assignment)
 
   -- each new clause is part of one of its node and follows; and each that goes has all of one that is there
   module _ (new : Network)
-      (added : (k : ℕ) (E : List ℕ) → In E (new k) → In E (own k) ⊎ ((D : List ℕ) × In D (own k) × Subsumes E D × Ordered E × (owner E ≡ k) × Implied own E))
+      (added : (k : ℕ) (E : List ℕ) → In E (new k) → In E (own k) ⊎ PartAt own k E)
       (lost : (k : ℕ) (E : List ℕ) → In E (own k) → In E (new k) ⊎ ((B : List ℕ) × In B (new (owner B)) × Subsumes B E))
     where
       added_clauses : WellPlaced new n
       added_clauses = record {
-        order = λ k E i. ⊎_elim (K.clauses.order k E) (λ (D, d, s, o, q, f). o) (added k E i);
-        owned = λ k E i. ⊎_elim (K.clauses.owned k E) (λ (D, d, s, o, q, f). q) (added k E i);
-        small = λ k E i. ⊎_elim (K.clauses.small k E) (λ (D, d, s, o, q, f). K.clauses.small k D d) (added k E i);
+        order = λ k E i. ⊎_elim (K.clauses.order k E) (λ p. p.order) (added k E i);
+        owned = λ k E i. ⊎_elim (K.clauses.owned k E) (λ p. p.owned) (added k E i);
+        small = λ k E i. ⊎_elim (K.clauses.small k E) (λ p. K.clauses.small k p.whole p.at) (added k E i);
       }
 
       sub_lower : (k : ℕ) (E B : List ℕ) → In E (own k) → Subsumes B E → owner B ≤ k
@@ -64,7 +73,7 @@ module _ (first own : Network) (n : ℕ) (V : Values) (gone frozen : Assignment)
 
       same_swap : Same (level own) (level new)
       same_swap = refined own new (well first own n V gone frozen K) K.total
-          (λ k E i. ⊎_elim inl (λ (D, d, s, o, q, f). inr (subst (λ j. Within j E) q (ordered_within E o), f.0, f.1)) (added k E i))
+          (λ k E i. ⊎_elim inl (λ p. inr (subst (λ j. Within j E) p.owned (ordered_within E p.order), p.implied.0, p.implied.1)) (added k E i))
           (λ k E i. ⊎_elim inl (λ (B, b, s). inr (owner B, B, sub_lower k E B i s, b, s)) (lost k E i))
 
       units : (k : ℕ) (b : Bool) → V k ≡ Some b → Known own k b → Known new k b
@@ -77,11 +86,11 @@ module _ (first own : Network) (n : ℕ) (V : Values) (gone frozen : Assignment)
               (single_of y B (added_clauses.order (owner B) B j) (λ l m. subst (In l) e (s l m)))
             where
               nil : (h : ℕ) (B : List ℕ) → In B (new h) → B ≡ [] → ⊥
-              nil h B j z = ⊎_elim (λ m. not_nil h B m z) (λ (D, d, t, o, q, f). implied_nil f.0 (λ σ w. sym (ap (holds σ) z) ∙ f.1 σ w)) (added h B j)
+              nil h B j z = ⊎_elim (λ m. not_nil h B m z) (λ p. implied_nil p.implied.0 (λ σ w. sym (ap (holds σ) z) ∙ p.implied.1 σ w)) (added h B j)
 
       pub swap_kept : Kept first new n V gone frozen
       swap_kept = refine_kept first own n V gone frozen K new same_swap added_clauses
-          (λ k C l i j. inl (⊎_elim (λ m. (C, m, j)) (λ (D, d, s, o, q, f). (D, d, s l j)) (added k C i))) units
+          (λ k C l i j. inl (⊎_elim (λ m. (C, m, j)) (λ p. (p.whole, p.at, p.part l j)) (added k C i))) units
 
   -- a pair with opposite literals of their node k, and the rest A: what has all of A may go from k
   module _ (new : Network) (k x : ℕ) (A C D : List ℕ) (nx : node x ≡ k) (free : Free k A) (in_c : In C (own k)) (in_d : In D (own k))
@@ -102,7 +111,4 @@ module _ (first own : Network) (n : ℕ) (V : Values) (gone frozen : Assignment)
           (λ j b v i. ⊎_elim (λ h. h) (λ (q, s). absurd (gone_unit j b q s)) (lost j (unit_of j b) i))
         where
           gone_unit : (j : ℕ) (b : Bool) → j ≡ k → Subsumes A (unit_of j b) → ⊥
-          gone_unit j b q s =
-              let (y, e, h) = unit_single j b in
-              let (z, i, m) = owner_in A a_not_nil in
-              free z i (grind (arith, subst (In z) e (s z i)))
+          gone_unit j b q s = grind (arith, unit_single j b, owner_in A a_not_nil, a_not_nil)

@@ -11,7 +11,8 @@ use Rattle.network.specs.Values.{Values, with_value, sign, unit_of, simplified}
 use Rattle.rules.specs.Kept.{obey, Kept, Traced}
 use Rattle.rules.specs.Work.{known_by}
 use Rattle.rules.proofs.Kept.{well, refine_kept, value_kept}
-use Rattle.rules.proofs.Simplified.{Short, simplified_some, simplified_ordered, short_holds, unit_is}
+use Rattle.rules.proofs.Simplified.{Short, simplified_some, short_holds, unit_is}
+use Rattle.network.proofs.Values.{simplified_ordered}
 
 -- the network with one more clause, at its owner
 pub record Plus (own new : Network) (S : List ℕ) : Type 0 where
@@ -30,11 +31,11 @@ Implied own C = (m : ℕ) × ((σ : Assignment) → Below (level own) m σ → h
 module _ (first own new : Network) (n : ℕ) (V : Values) (gone frozen : Assignment) (K : Kept first own n V gone frozen) (pos : 0 < n)
     (C S : List ℕ) (e : simplified V C ≡ Some S) (oC : Ordered C) (occurs : Occurs own C) (implied : Implied own C) (p : Plus own new S)
   where
-    sh : Short V C (Some S)
+    sh : Short V C S
     sh = simplified_some V C S e
 
     oS : Ordered S
-    oS = simplified_ordered V C S e oC
+    oS = simplified_ordered V C S oC e
 
     literal_small : (l : ℕ) → In l S → node l < n
     literal_small l i =

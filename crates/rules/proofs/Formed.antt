@@ -1,6 +1,6 @@
 -- Well-formed clauses. Assumes nothing.
 use Rattle.std.proofs.Common.{◌≡◌, ℕ, ◌<◌, ◌≤◌, Bool, true, not, ◌&&◌, eqb, ltb, leb, List, [], ◌∷◌, length, filter, sym, refl, ap, ◌∙◌, subst, inl, ⊎_elim, arith}
-use Rattle.std.proofs.lemmas.Bool.{and_parts, and_from, ltb-true, lt-ltb, leb-true, le-leb, cond_both}
+use Rattle.std.proofs.lemmas.Bool.{and_parts, and_from, ltb-true, lt-ltb, leb-true, le-leb}
 use Rattle.network.specs.Assignments.{node}
 use Rattle.network.specs.Lists.{In}
 use Rattle.network.specs.Clauses.{Ordered, in_order, last, front, owner, without, well_formed}
@@ -11,11 +11,7 @@ use Rattle.network.proofs.Resolution.{in_without}
 pub order_is : (C : List ℕ) → in_order C ≡ true → Ordered C
 order_is [] e = tt
 order_is (x ∷ []) e = ((λ y i. absurd i), tt)
-order_is (x ∷ y ∷ C) e =
-    let (a, b) = and_parts (ltb (node x) (node y)) (in_order (y ∷ C)) e in
-    let o = order_is (y ∷ C) b in
-    let l : node x < node y = ltb-true (node x) (node y) a in
-    ((λ z i. ⊎_elim (λ q. subst (λ w. node x < node w) (sym q) l) (λ j. omega (arith, o.0 z j)) i), o)
+order_is (x ∷ y ∷ C) e = grind (arith, and_parts, order_is (y ∷ C), ltb-true)
 
 pub is_order : (C : List ℕ) → Ordered C → in_order C ≡ true
 is_order [] o = refl
@@ -57,7 +53,7 @@ not_nil_some (x ∷ C) h = omega arith
 
 kept_shorter : (p : ℕ → Bool) (C : List ℕ) → length (filter p C) ≤ length C
 kept_shorter p [] = omega arith
-kept_shorter p (x ∷ C) = cond_both (p x) (x ∷ filter p C) (filter p C) (λ D. length D ≤ length (x ∷ C)) (λ e. omega (arith, kept_shorter p C)) (λ e. omega (arith, kept_shorter p C))
+kept_shorter p (x ∷ C) = grind (arith, kept_shorter p C)
 
 pub without_shorter : (x : ℕ) (C : List ℕ) → length (without x C) ≤ length C
 without_shorter x C = kept_shorter (λ l. not (eqb l x)) C

@@ -1,50 +1,25 @@
 -- Changes of a store keep its index. Assumes nothing.
-use Rattle.std.proofs.Common.{◌≡◌, ℕ, zero, suc, ◌+◌, ◌-◌, ◌<◌, ◌≤◌, true, false, cond, not, ◌&&◌, eqb, ◌⊎◌, List, [], ◌∷◌, ◌++◌, map, length, get_or, take, set, filter, sym, refl, ap, ◌∙◌, subst, inl, inr, ⊎_elim, arith}
-use Rattle.std.proofs.lemmas.Bool.{cases_eq, cases_lt, cases_Bool, cond_both, cond-true, cond-false, not-true, not_from_false, eq-eqb}
+use Rattle.std.proofs.Common.{◌≡◌, ℕ, zero, suc, ◌+◌, ◌-◌, ◌<◌, ◌≤◌, true, false, ◌&&◌, eqb, ◌⊎◌, List, [], ◌∷◌, ◌++◌, map, length, get_or, set, sym, refl, ap, ◌∙◌, subst, inl, inr, ⊎_elim, arith}
+use Rattle.std.specs.List.{swap_remove}
+use Rattle.std.proofs.lemmas.Bool.{cases_eq, cases_lt, cases_Bool, cond-true, cond-false, not-true, not_from_false, eq-eqb}
 use Rattle.std.proofs.lemmas.Bool.Decides.{nat_tests}
-use Rattle.network.specs.Lists.{In, gather}
+use Rattle.std.proofs.lemmas.List.{get_or-take, length-take-le, get_or-set_other, get_or-set_same, get_or_append_left, get_or_push, length-append, length-set}
+use Rattle.network.specs.Lists.{In}
 use Rattle.network.specs.Clauses.{has, last, front}
-use Rattle.network.proofs.Lists.{in_left, in_right, in_cases, in_kept, kept_in, in_map, map_in, any_from, in_gather, gather_in, has_in}
-use Rattle.rules.specs.Store.{Ref, live, dead, Meaning, is_at, from, up_to, literals, swap_out, with_use, entered, moved_ref, removed, with_first, places, index_on}
+use Rattle.network.proofs.Lists.{in_left, in_right, in_cases, in_kept, kept_in, in_map, map_in, any_from, in_flat_map, flat_map_in, has_in}
+use Rattle.rules.specs.Store.{Ref, live, dead, Meaning, is_at, from, up_to, literals, with_use, entered, moved_ref, removed, places, index_on, filled}
 use Rattle.rules.specs.Index.{Indexed}
-use Rattle.rules.proofs.Places.{in_at, changed_here, changed_apart, set_length, set_at, set_other}
+use Rattle.rules.proofs.Places.{in_at, changed_here, changed_apart}
 
 module _ {X : Type 0} where
-  take_at : (xs : List X) (n j : ℕ) (d : X) → j < n → get_or (take n xs) j d ≡ get_or xs j d
-  take_at xs zero j d l = absurd (omega arith)
-  take_at [] (suc n) j d l = refl
-  take_at (x ∷ xs) (suc n) zero d l = refl
-  take_at (x ∷ xs) (suc n) (suc j) d l = take_at xs n j d (omega arith)
+  pub swap_length : (d : X) (i : ℕ) (xs : List X) → length (swap_remove xs i d) ≡ length xs - 1
+  swap_length d i xs = length-take-le (length xs - 1) (set xs i (get_or xs (length xs - 1) d)) (omega (arith, length-set xs i (get_or xs (length xs - 1) d)))
 
-  take_length : (xs : List X) (n : ℕ) → n ≤ length xs → length (take n xs) ≡ n
-  take_length xs zero l = refl
-  take_length [] (suc n) l = absurd (omega arith)
-  take_length (x ∷ xs) (suc n) l = ap suc (take_length xs n (omega arith))
+  pub swap_here : (d : X) (i : ℕ) (xs : List X) → i < length xs - 1 → get_or (swap_remove xs i d) i d ≡ get_or xs (length xs - 1) d
+  swap_here d i xs l = get_or-take (length xs - 1) (set xs i (get_or xs (length xs - 1) d)) i d l ∙ get_or-set_same xs i (get_or xs (length xs - 1) d) d (omega arith)
 
-  pub swap_length : (d : X) (i : ℕ) (xs : List X) → length (swap_out d i xs) ≡ length xs - 1
-  unfolding swap_out
-  swap_length d i xs = take_length (set xs i (get_or xs (length xs - 1) d)) (length xs - 1) (omega (arith, set_length xs i (get_or xs (length xs - 1) d)))
-
-  pub swap_here : (d : X) (i : ℕ) (xs : List X) → i < length xs - 1 → get_or (swap_out d i xs) i d ≡ get_or xs (length xs - 1) d
-  unfolding swap_out
-  swap_here d i xs l = take_at (set xs i (get_or xs (length xs - 1) d)) (length xs - 1) i d l ∙ set_at xs i (get_or xs (length xs - 1) d) d (omega arith)
-
-  pub swap_other : (d : X) (i j : ℕ) (xs : List X) → j < length xs - 1 → (j ≡ i → ⊥) → get_or (swap_out d i xs) j d ≡ get_or xs j d
-  unfolding swap_out
-  swap_other d i j xs l a = take_at (set xs i (get_or xs (length xs - 1) d)) (length xs - 1) j d l ∙ set_other xs i j (get_or xs (length xs - 1) d) d a
-
-  pub append_at : (xs : List X) (y d : X) → get_or (xs ++ (y ∷ [])) (length xs) d ≡ y
-  append_at [] y d = refl
-  append_at (x ∷ xs) y d = append_at xs y d
-
-  pub append_below : (xs ys : List X) (j : ℕ) (d : X) → j < length xs → get_or (xs ++ ys) j d ≡ get_or xs j d
-  append_below [] ys j d l = absurd (omega arith)
-  append_below (x ∷ xs) ys zero d l = refl
-  append_below (x ∷ xs) ys (suc j) d l = append_below xs ys j d (omega arith)
-
-  pub append_length : (xs ys : List X) → length (xs ++ ys) ≡ length xs + length ys
-  append_length [] ys = omega arith
-  append_length (x ∷ xs) ys = omega (arith, append_length xs ys)
+  pub swap_other : (d : X) (i j : ℕ) (xs : List X) → j < length xs - 1 → (j ≡ i → ⊥) → get_or (swap_remove xs i d) j d ≡ get_or xs j d
+  swap_other d i j xs l a = get_or-take (length xs - 1) (set xs i (get_or xs (length xs - 1) d)) j d l ∙ get_or-set_other xs i j (get_or xs (length xs - 1) d) d a
 
 pub live_lit : (a b c d : ℕ) → live a b ≡ live c d → a ≡ c
 live_lit a b c d e = cc
@@ -53,7 +28,7 @@ pub live_place : (a b c d : ℕ) → live a b ≡ live c d → b ≡ d
 live_place a b c d e = cc
 
 pub live_dead : (a b : ℕ) → live a b ≡ dead → ⊥
-live_dead a b e = let z : ◌≡◌ {A = ℕ} 0 1 = cc in omega arith
+live_dead a b e = cc
 
 pub at_is : (l i a b : ℕ) → is_at l i (live a b) ≡ true → (a ≡ l) × (b ≡ i)
 at_is l i a b e = (grind (arith, nat_tests), grind (arith, nat_tests))
@@ -71,16 +46,20 @@ pub moved_not : (l m i a b : ℕ) → is_at l m (live a b) ≡ false → moved_r
 moved_not l m i a b e = cond-false (is_at l m (live a b)) (live l i) (live a b) e
 
 module _ (M : Meaning) (l i : ℕ) where
-  pub removed_own : (removed l i M).own l ≡ swap_out [] i (M.own l)
+  pub removed_own : (removed l i M).own l ≡ swap_remove (M.own l) i []
   unfolding removed
-  removed_own = changed_here M.own l (swap_out [] i (M.own l))
+  removed_own = changed_here M.own l (swap_remove (M.own l) i [])
 
   pub removed_apart : (k : ℕ) → (k ≡ l → ⊥) → (removed l i M).own k ≡ M.own k
   unfolding removed
-  removed_apart k a = changed_apart M.own l (swap_out [] i (M.own l)) k a
+  removed_apart k a = changed_apart M.own l (swap_remove (M.own l) i []) k a
 
   pub removed_length : length ((removed l i M).own l) ≡ length (M.own l) - 1
   removed_length = ap length removed_own ∙ swap_length [] i (M.own l)
+
+  pub removed_origin : (x : ℕ) (s : Ref) → In s ((removed l i M).uses x) → (r : Ref) × In r (M.uses x) × (is_at l i r ≡ false) × (s ≡ moved_ref l (length (M.own l) - 1) i r)
+  unfolding removed
+  removed_origin x s h = grind (arith, nat_tests, map_in (moved_ref l (length (M.own l) - 1) i) s, kept_in, not-true)
 
   module _ (I : Indexed M) (li : i < length (M.own l)) where
     end : ℕ
@@ -89,86 +68,18 @@ module _ (M : Meaning) (l i : ℕ) where
     -- a use after the removal
     use_named : (x k j a b : ℕ) → In (live a b) (M.uses x) → is_at l i (live a b) ≡ false → live k j ≡ moved_ref l (length (M.own l) - 1) i (live a b)
         → (j < length ((removed l i M).own k)) × In x (front (get_or ((removed l i M).own k) j []))
-    use_named x k j a b h f e = ⊎_elim here there (cases_Bool (is_at l (length (M.own l) - 1) (live a b)))
-      where
-        m : ℕ
-        m = length (M.own l) - 1
-
-        old : (b < length (M.own a)) × In x (front (get_or (M.own a) b []))
-        old = I.named x a b h
-
-        here : is_at l (length (M.own l) - 1) (live a b) ≡ true → (j < length ((removed l i M).own k)) × In x (front (get_or ((removed l i M).own k) j []))
-        here t =
-            let (al, bm) = at_is l (length (M.own l) - 1) a b t in
-            let e' : live k j ≡ live l i = e ∙ moved_here l (length (M.own l) - 1) i a b t in
-            let kl = live_lit k j l i e' in
-            let ji = live_place k j l i e' in
-            let ne : b ≡ i → ⊥ = λ q. both f (al, q) in
-            let lt : i < length (M.own l) - 1 = omega (arith, bm, ne) in
-            subst (λ g. (j < length ((removed l i M).own g)) × In x (front (get_or ((removed l i M).own g) j []))) (sym kl)
-            (subst (λ g. (g < length ((removed l i M).own l)) × In x (front (get_or ((removed l i M).own l) g []))) (sym ji) (
-              omega (arith, removed_length),
-              subst (λ C. In x (front C)) (sym (ap (λ xs. get_or xs i []) removed_own ∙ swap_here [] i (M.own l) lt))
-                  (subst (λ g. In x (front (get_or (M.own l) g []))) bm (subst (λ g. In x (front (get_or (M.own g) b []))) al old.1)),
-            ))
-          where
-            both : is_at l i (live a b) ≡ false → (a ≡ l) × (b ≡ i) → ⊥
-            both f (p, q) = grind (arith, nat_tests)
-
-        there : is_at l (length (M.own l) - 1) (live a b) ≡ false → (j < length ((removed l i M).own k)) × In x (front (get_or ((removed l i M).own k) j []))
-        there t =
-            let e' : live k j ≡ live a b = e ∙ moved_not l (length (M.own l) - 1) i a b t in
-            subst (λ g. (j < length ((removed l i M).own g)) × In x (front (get_or ((removed l i M).own g) j []))) (sym (live_lit k j a b e'))
-            (subst (λ g. (g < length ((removed l i M).own a)) × In x (front (get_or ((removed l i M).own a) g []))) (sym (live_place k j a b e')) same)
-          where
-            apart_of : (p : ℕ) → is_at l p (live a b) ≡ false → a ≡ l → b ≡ p → ⊥
-            apart_of p q al bp = grind (arith, nat_tests)
-
-            same : (b < length ((removed l i M).own a)) × In x (front (get_or ((removed l i M).own a) b []))
-            same = ⊎_elim
-                (λ al. let lt : b < length (M.own l) - 1 = omega (arith, subst (λ g. b < length (M.own g)) al old.0, apart_of (length (M.own l) - 1) t al) in
-                subst (λ g. (b < length ((removed l i M).own g)) × In x (front (get_or ((removed l i M).own g) b []))) (sym al) (
-                  omega (arith, removed_length),
-                  subst (λ C. In x (front C)) (sym (ap (λ xs. get_or xs b []) removed_own ∙ swap_other [] i b (M.own l) lt (apart_of i f al)))
-                      (subst (λ g. In x (front (get_or (M.own g) b []))) al old.1),
-                ))
-                (λ d. subst (λ xs. (b < length xs) × In x (front (get_or xs b []))) (sym (removed_apart a d)) old) (cases_eq a l)
+    use_named x k j a b h f e = grind (arith, nat_tests, I.named x a b h, removed_own, removed_apart a, removed_length, swap_here [] i (M.own l), swap_other [] i b (M.own l), at_is l (length (M.own l) - 1) a b, cases_eq a l, moved_here l (length (M.own l) - 1) i a b, moved_not l (length (M.own l) - 1) i a b)
 
     -- a ref that stays
     use_stays : (x a b k j : ℕ) → In (live a b) (M.uses x) → is_at l i (live a b) ≡ false → moved_ref l (length (M.own l) - 1) i (live a b) ≡ live k j → In (live k j) ((removed l i M).uses x)
     unfolding removed
-    use_stays x a b k j h f e =
-        subst (λ r. In r (map (moved_ref l (length (M.own l) - 1) i) (filter (λ r. not (is_at l i r)) (M.uses x)))) e
-        (in_map (moved_ref l (length (M.own l) - 1) i) (live a b) (filter (λ r. not (is_at l i r)) (M.uses x)) (in_kept (λ r. not (is_at l i r)) (live a b) (M.uses x) h (not_from_false (is_at l i (live a b)) f)))
+    use_stays x a b k j h f e = grind (arith, nat_tests, in_map (moved_ref l (length (M.own l) - 1) i) (live a b), in_kept, not_from_false (is_at l i (live a b)) f)
 
     use_every : (x k j : ℕ) → j < length ((removed l i M).own k) → In x (front (get_or ((removed l i M).own k) j [])) → In (live k j) ((removed l i M).uses x)
-    use_every x k j lj h = ⊎_elim same (λ d. use_stays x k j k j (I.every x k j (subst (λ xs. j < length xs) (removed_apart k d) lj) (subst (λ xs. In x (front (get_or xs j []))) (removed_apart k d) h))
-        (at_not l i k j (λ p q. d p)) (moved_not l (length (M.own l) - 1) i k j (at_not l (length (M.own l) - 1) k j (λ p q. d p)))) (cases_eq k l)
-      where
-        at_l : (j < length ((removed l i M).own l)) → In x (front (get_or ((removed l i M).own l) j [])) → In (live l j) ((removed l i M).uses x)
-        at_l lj h =
-            let lt : j < length (M.own l) - 1 = omega (arith, removed_length) in
-            ⊎_elim
-            (λ e. subst (λ g. In (live l g) ((removed l i M).uses x)) (sym e)
-            (use_stays x l (length (M.own l) - 1) l i
-            (I.every x l (length (M.own l) - 1) (omega (arith, li)) (subst (λ C. In x (front C)) (ap (λ xs. get_or xs i []) removed_own ∙ swap_here [] i (M.own l) (omega (arith, e))) (subst (λ g. In x (front (get_or ((removed l i M).own l) g []))) e h)))
-            (at_not l i l (length (M.own l) - 1) (λ p q. omega (arith, e, q))) (moved_here l (length (M.own l) - 1) i l (length (M.own l) - 1) (is_here l (length (M.own l) - 1)))))
-            (λ d. use_stays x l j l j (I.every x l j (omega arith) (subst (λ C. In x (front C)) (ap (λ xs. get_or xs j []) removed_own ∙ swap_other [] i j (M.own l) lt d) h))
-            (at_not l i l j (λ p q. d q)) (moved_not l (length (M.own l) - 1) i l j (at_not l (length (M.own l) - 1) l j (λ p q. omega (arith, q)))))
-            (cases_eq j i)
-
-        same : k ≡ l → In (live k j) ((removed l i M).uses x)
-        same e = subst (λ g. In (live g j) ((removed l i M).uses x)) (sym e) (at_l (subst (λ g. j < length ((removed l i M).own g)) e lj) (subst (λ g. In x (front (get_or ((removed l i M).own g) j []))) e h))
-
-    pub use_origin : (x : ℕ) (s : Ref) → In s ((removed l i M).uses x) → (r : Ref) × In r (M.uses x) × (is_at l i r ≡ false) × (s ≡ moved_ref l (length (M.own l) - 1) i r)
-    unfolding removed
-    use_origin x s h =
-        let (r, k, e) = map_in (moved_ref l (length (M.own l) - 1) i) s (filter (λ r. not (is_at l i r)) (M.uses x)) h in
-        let (o, t) = kept_in (λ r. not (is_at l i r)) r (M.uses x) k in
-        (r, o, not-true (is_at l i r) t, e)
+    use_every x k j lj h = grind (arith, nat_tests, removed_own, removed_apart k, removed_length, swap_here [] i (M.own l), swap_other [] i j (M.own l), I.every x k j, I.every x l (length (M.own l) - 1), use_stays x k j k j, use_stays x l (length (M.own l) - 1) l i, cases_eq k l, cases_eq j i, at_not l i k j, at_not l i l (length (M.own l) - 1), moved_here l (length (M.own l) - 1) i l (length (M.own l) - 1), is_here l (length (M.own l) - 1), moved_not l (length (M.own l) - 1) i k j, at_not l (length (M.own l) - 1) k j)
 
     pub removed_indexed : Indexed (removed l i M)
-    removed_indexed = record { on = on'; named = λ x k j h. go x k j (use_origin x (live k j) h); every = use_every; no_dead = λ x h. lost x (use_origin x dead h) }
+    removed_indexed = record { on = on'; named = λ x k j h. go x k j (removed_origin x (live k j) h); every = use_every; no_dead = λ x h. lost x (removed_origin x dead h) }
       where
         on' : (removed l i M).indexed ≡ true
         on' = unfold removed in I.on
@@ -179,8 +90,7 @@ module _ (M : Meaning) (l i : ℕ) where
 
         lost : (x : ℕ) → (r : Ref) × In r (M.uses x) × (is_at l i r ≡ false) × (dead ≡ moved_ref l (length (M.own l) - 1) i r) → ⊥
         lost x (dead, o, f, e) = I.no_dead x o
-        lost x (live a b, o, f, e) = ⊎_elim (λ t. live_dead l i (sym (e ∙ moved_here l (length (M.own l) - 1) i a b t))) (λ t. live_dead a b (sym (e ∙ moved_not l (length (M.own l) - 1) i a b t)))
-            (cases_Bool (is_at l (length (M.own l) - 1) (live a b)))
+        lost x (live a b, o, f, e) = grind (arith, nat_tests, live_dead l i, moved_here l (length (M.own l) - 1) i a b, live_dead a b, moved_not l (length (M.own l) - 1) i a b, cases_Bool (is_at l (length (M.own l) - 1) (live a b)))
 
 -- a clause entered
 module _ (M : Meaning) (C : List ℕ) where
@@ -192,12 +102,11 @@ module _ (M : Meaning) (C : List ℕ) where
   unfolding entered
   entered_apart k a = changed_apart M.own (last C) (M.own (last C) ++ (C ∷ [])) k a
 
+  pub entered_cases : (l : ℕ) (E : List ℕ) → In E ((entered C M).own l) → In E (M.own l) ⊎ ((E ≡ C) × (l ≡ last C))
+  entered_cases l E h = grind (arith, cases_eq l (last C), entered_own, entered_apart l, in_cases E (M.own (last C)) (C ∷ []))
+
   pub old_stays : (k j : ℕ) → j < length (M.own k) → (j < length ((entered C M).own k)) × (get_or ((entered C M).own k) j [] ≡ get_or (M.own k) j [])
-  old_stays k j l = ⊎_elim
-      (λ e. subst (λ g. (j < length ((entered C M).own g)) × (get_or ((entered C M).own g) j [] ≡ get_or (M.own g) j [])) (sym e)
-      (subst (λ xs. (j < length xs) × (get_or xs j [] ≡ get_or (M.own (last C)) j [])) (sym entered_own)
-      (omega (arith, append_length (M.own (last C)) (C ∷ []), subst (λ g. j < length (M.own g)) e l), append_below (M.own (last C)) (C ∷ []) j [] (subst (λ g. j < length (M.own g)) e l))))
-      (λ a. subst (λ xs. (j < length xs) × (get_or xs j [] ≡ get_or (M.own k) j [])) (sym (entered_apart k a)) (l, refl)) (cases_eq k (last C))
+  old_stays k j l = grind (arith, cases_eq k (last C), entered_own, entered_apart k, length-append (M.own (last C)) (C ∷ []), get_or_append_left (M.own (last C)) (C ∷ []) [] j)
 
   module _ (I : Indexed M) where
     uses_is : (x : ℕ) → (entered C M).uses x ≡ with_use (has x (front C)) (M.uses x) (live (last C) (length (M.own (last C))))
@@ -205,23 +114,16 @@ module _ (M : Meaning) (C : List ℕ) where
     uses_is x = ap (λ b. with_use (b && has x (front C)) (M.uses x) (live (last C) (length (M.own (last C))))) I.on
 
     use_cases : (x : ℕ) (r : Ref) → In r ((entered C M).uses x) → In r (M.uses x) ⊎ ((r ≡ live (last C) (length (M.own (last C)))) × In x (front C))
-    use_cases x r h = cond_both (has x (front C)) (M.uses x ++ (live (last C) (length (M.own (last C))) ∷ [])) (M.uses x)
-        (λ rs. In r rs → In r (M.uses x) ⊎ ((r ≡ live (last C) (length (M.own (last C)))) × In x (front C)))
-        (λ e j. ⊎_elim inl (λ k. inr (⊎_elim (λ q. q) absurd k, has_in x (front C) e)) (in_cases r (M.uses x) (live (last C) (length (M.own (last C))) ∷ []) j))
-        (λ e j. inl j) (subst (In r) (uses_is x) h)
+    use_cases x r h = let i = subst (In r) (uses_is x) h in grind (arith, i, in_cases r (M.uses x) (live (last C) (length (M.own (last C))) ∷ []), has_in x (front C))
 
     use_old : (x : ℕ) (r : Ref) → In r (M.uses x) → In r ((entered C M).uses x)
-    use_old x r h = subst (In r) (sym (uses_is x))
-        (cond_both (has x (front C)) (M.uses x ++ (live (last C) (length (M.own (last C))) ∷ [])) (M.uses x) (In r) (λ e. in_left r (M.uses x) (live (last C) (length (M.own (last C))) ∷ []) h) (λ e. h))
+    use_old x r h = subst (In r) (sym (uses_is x)) (grind (arith, h, in_left r (M.uses x)))
 
     use_new : (x : ℕ) → In x (front C) → In (live (last C) (length (M.own (last C)))) ((entered C M).uses x)
-    use_new x h = subst (In (live (last C) (length (M.own (last C))))) (sym (uses_is x))
-        (subst (λ b. In (live (last C) (length (M.own (last C)))) (with_use b (M.uses x) (live (last C) (length (M.own (last C)))))) (sym (any_from (eqb x) (front C) x h (eq-eqb x x refl)))
-        (in_right (live (last C) (length (M.own (last C)))) (M.uses x) (live (last C) (length (M.own (last C))) ∷ []) (inl refl)))
+    use_new x h = grind (arith, nat_tests, M.own (last C), uses_is x, any_from (eqb x) (front C) x h, eq-eqb x x, in_right (live (last C) (length (M.own (last C)))) (M.uses x) (live (last C) (length (M.own (last C))) ∷ []))
 
     new_named : (x : ℕ) → In x (front C) → (length (M.own (last C)) < length ((entered C M).own (last C))) × In x (front (get_or ((entered C M).own (last C)) (length (M.own (last C))) []))
-    new_named x h = subst (λ xs. (length (M.own (last C)) < length xs) × In x (front (get_or xs (length (M.own (last C))) []))) (sym entered_own)
-        (omega (arith, append_length (M.own (last C)) (C ∷ [])), subst (λ E. In x (front E)) (sym (append_at (M.own (last C)) C [])) h)
+    new_named x h = grind (arith, entered_own, length-append (M.own (last C)) (C ∷ []), get_or_push (M.own (last C)) C [] (length (M.own (last C))) refl)
 
     pub entered_indexed : Indexed (entered C M)
     entered_indexed = record {
@@ -234,14 +136,7 @@ module _ (M : Meaning) (C : List ℕ) where
     }
       where
         last_every : (x k j : ℕ) → j < length ((entered C M).own k) → length (M.own k) ≤ j → In x (front (get_or ((entered C M).own k) j [])) → In (live k j) ((entered C M).uses x)
-        last_every x k j l m h = ⊎_elim
-            (λ e. let l' = subst (λ g. j < length ((entered C M).own g)) e l in
-            let m' = subst (λ g. length (M.own g) ≤ j) e m in
-            let q : j ≡ length (M.own (last C)) = omega (arith, subst (λ xs. j < length xs) entered_own l', append_length (M.own (last C)) (C ∷ []), m') in
-            subst (λ g. In (live g j) ((entered C M).uses x)) (sym e) (subst (λ g. In (live (last C) g) ((entered C M).uses x)) (sym q)
-            (use_new x (subst (λ E. In x (front E)) (ap (λ xs. get_or xs (length (M.own (last C))) []) entered_own ∙ append_at (M.own (last C)) C [])
-            (subst (λ g. In x (front (get_or ((entered C M).own (last C)) g []))) q (subst (λ g. In x (front (get_or ((entered C M).own g) j []))) e h))))))
-            (λ a. absurd (omega (arith, subst (λ xs. j < length xs) (entered_apart k a) l, m))) (cases_eq k (last C))
+        last_every x k j l m h = grind (arith, cases_eq k (last C), entered_own, entered_apart k, length-append (M.own (last C)) (C ∷ []), get_or_push (M.own (last C)) C [] j, use_new x)
 
 -- an index made
 pub in_from : (m i k : ℕ) → i ≤ k → k < i + m → In k (from i m)
@@ -251,47 +146,47 @@ in_from (suc m) i k l u = ⊎_elim (λ e. inl e) (λ a. inr (in_from m (suc i) k
 pub in_up_to : (m k : ℕ) → k < m → In k (up_to m)
 in_up_to m k l = in_from m 0 k (omega arith) (omega arith)
 
+pub map_from : {X : Type 0} (f : ℕ → X) (d : X) (t i k : ℕ) → k < t → get_or (map f (from i t)) k d ≡ f (i + k)
+map_from f d zero i k l = absurd (omega arith)
+map_from f d (suc t) i zero l = ap f (omega arith)
+map_from f d (suc t) i (suc k) l = map_from f d t (suc i) k (omega arith) ∙ ap f (omega arith)
+
+pub from_length : (t i : ℕ) → length (from i t) ≡ t
+from_length zero i = refl
+from_length (suc t) i = ap suc (from_length t (suc i))
+
 pub places_named : (x l : ℕ) (Cs : List (List ℕ)) (i k j : ℕ) → In (live k j) (places x l i Cs) → (k ≡ l) × (i ≤ j) × (j < i + length Cs) × In x (front (get_or Cs (j - i) []))
 unfolding places
 places_named x l [] i k j h = absurd h
-places_named x l (C ∷ Cs) i k j h = cond_both (has x (front C)) (live l i ∷ places x l (suc i) Cs) (places x l (suc i) Cs)
-    (λ rs. In (live k j) rs → (k ≡ l) × (i ≤ j) × (j < i + suc (length Cs)) × In x (front (get_or (C ∷ Cs) (j - i) [])))
-    (λ e r. ⊎_elim (λ q. here e q) (λ w. later (places_named x l Cs (suc i) k j w)) r) (λ e r. later (places_named x l Cs (suc i) k j r)) h
-  where
-    here : has x (front C) ≡ true → live k j ≡ live l i → (k ≡ l) × (i ≤ j) × (j < i + suc (length Cs)) × In x (front (get_or (C ∷ Cs) (j - i) []))
-    here e q = let ji = live_place k j l i q in let z : 0 ≡ j - i = omega (arith, ji) in
-        (live_lit k j l i q, omega (arith, ji), omega (arith, ji), subst (λ t. In x (front (get_or (C ∷ Cs) t []))) z (has_in x (front C) e))
-
-    later : (k ≡ l) × (suc i ≤ j) × (j < suc i + length Cs) × In x (front (get_or Cs (j - suc i) [])) → (k ≡ l) × (i ≤ j) × (j < i + suc (length Cs)) × In x (front (get_or (C ∷ Cs) (j - i) []))
-    later (a, b, c, d) = let q : suc (j - suc i) ≡ j - i = omega (arith, b) in
-        (a, omega (arith, b), omega (arith, c), subst (λ t. In x (front (get_or (C ∷ Cs) t []))) q d)
+places_named x l (C ∷ Cs) i k j h = grind (arith, nat_tests, places_named x l Cs (suc i) k j, live_place k j l i, live_lit k j l i, has_in x (front C))
 
 places_every : (x l : ℕ) (Cs : List (List ℕ)) (i j : ℕ) → j < length Cs → In x (front (get_or Cs j [])) → In (live l (i + j)) (places x l i Cs)
 unfolding places
 places_every x l [] i j lj h = absurd (omega arith)
-places_every x l (C ∷ Cs) i zero lj h = subst (λ b. In (live l (i + 0)) (with_first b (live l i) (places x l (suc i) Cs))) (sym (any_from (eqb x) (front C) x h (eq-eqb x x refl)))
-    (inl (ap (live l) (omega arith)))
-places_every x l (C ∷ Cs) i (suc j) lj h =
-    let r : In (live l (i + suc j)) (places x l (suc i) Cs) = subst (λ t. In (live l t) (places x l (suc i) Cs)) (omega arith) (places_every x l Cs (suc i) j (omega arith) h) in
-    cond_both (has x (front C)) (live l i ∷ places x l (suc i) Cs) (places x l (suc i) Cs) (In (live l (i + suc j))) (λ e. inr r) (λ e. r)
+places_every x l (C ∷ Cs) i zero lj h = grind (arith, nat_tests, any_from (eqb x) (front C) x h, eq-eqb x x)
+places_every x l (C ∷ Cs) i (suc j) lj h = grind (arith, nat_tests, places_every x l Cs (suc i) j)
 
 pub places_live : (x l : ℕ) (Cs : List (List ℕ)) (i : ℕ) → In dead (places x l i Cs) → ⊥
 unfolding places
 places_live x l [] i h = h
-places_live x l (C ∷ Cs) i h = cond_both (has x (front C)) (live l i ∷ places x l (suc i) Cs) (places x l (suc i) Cs) (λ rs. In dead rs → ⊥)
-    (λ e r. ⊎_elim (λ q. live_dead l i (sym q)) (places_live x l Cs (suc i)) r) (λ e r. places_live x l Cs (suc i) r) h
+places_live x l (C ∷ Cs) i h = grind (arith, live_dead l i, places_live x l Cs (suc i))
+
+-- what is filled names the places that are there
+pub filled_named : (M : Meaning) (x k j : ℕ) → In (live k j) ((filled M).uses x) → (j < length (M.own k)) × In x (front (get_or (M.own k) j []))
+filled_named M x k j h =
+    let (l, i, p) = flat_map_in (λ l. places x l 0 (M.own l)) literals (live k j) h in
+    let (a, b, c, d) = places_named x l (M.own l) 0 k j p in
+    subst (λ g. (j < length (M.own g)) × In x (front (get_or (M.own g) j []))) (sym a) (omega arith, subst (λ t. In x (front (get_or (M.own l) t []))) (omega arith) d)
+
+pub filled_live : (M : Meaning) (x : ℕ) → In dead ((filled M).uses x) → ⊥
+filled_live M x h = let (l, i, p) = flat_map_in (λ l. places x l 0 (M.own l)) literals dead h in places_live x l (M.own l) 0 p
 
 pub index_on_indexed : (M : Meaning) → M.indexed ≡ false → ((l : ℕ) (C : List ℕ) → In C (M.own l) → l < 2048) → Indexed (index_on M)
 unfolding index_on
-index_on_indexed M off small = subst (λ b. Indexed (cond b M made)) (sym off) (record {
+index_on_indexed M off small = subst Indexed (sym (cond-false M.indexed M (filled M) off)) (record {
   on = refl;
-  named = λ x k j h. let (l, i, p) = gather_in (λ l. places x l 0 (M.own l)) literals (live k j) h in
-      let (a, b, c, d) = places_named x l (M.own l) 0 k j p in
-      subst (λ g. (j < length (M.own g)) × In x (front (get_or (M.own g) j []))) (sym a) (omega arith, subst (λ t. In x (front (get_or (M.own l) t []))) (omega arith) d);
-  every = λ x l i li h. in_gather (λ l. places x l 0 (M.own l)) literals l (live l i)
+  named = filled_named M;
+  every = λ x l i li h. in_flat_map (λ l. places x l 0 (M.own l)) literals l (live l i)
       (in_up_to 2048 l (small l (get_or (M.own l) i []) (in_at (M.own l) i [] li))) (subst (λ t. In (live l t) (places x l 0 (M.own l))) (omega arith) (places_every x l (M.own l) 0 i li h));
-  no_dead = λ x h. let (l, i, p) = gather_in (λ l. places x l 0 (M.own l)) literals dead h in places_live x l (M.own l) 0 p;
+  no_dead = filled_live M;
 })
-  where
-    made : Meaning
-    made = record { room = M.room; indexed = true; own = M.own; uses = λ x. gather (λ l. places x l 0 (M.own l)) literals; dead_clauses = 0 }

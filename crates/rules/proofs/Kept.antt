@@ -21,9 +21,6 @@ pub obey_none : (V : Values) (σ : Assignment) (k : ℕ) → V k ≡ None → ob
 unfolding obey
 obey_none V σ k e = ap (λ o. or_else o (σ k)) e
 
-pub obey_agrees : (V : Values) (σ : Assignment) → Obeys (obey V σ) V
-obey_agrees V σ k b e = obey_some V σ k b e
-
 pub known : (o : Option Bool) → (o ≡ None) ⊎ ((b : Bool) × (o ≡ Some b))
 known None = inl refl
 known (Some b) = inr (b, refl)

@@ -1,17 +1,20 @@
 -- Every change of a store keeps its meaning lawful. Assumes nothing.
 use Rattle.std.proofs.Common.{◌≡◌, ℕ, zero, suc, ◌+◌, ◌-◌, ◌<◌, ◌≤◌, true, false, cond, not, ◌&&◌, ◌||◌, eqb, ltb, ◌⊎◌, List, [], ◌∷◌, ◌++◌, map, length, get_or, filter, sym, refl, ap, ◌∙◌, subst, inl, inr, ⊎_elim, arith}
-use Rattle.std.proofs.lemmas.Bool.{cases_eq, cases_lt, cases_Bool, cond_both, both_ways, and_parts, ltb-true, not-true}
+use Rattle.std.specs.List.{list_any}
+use Rattle.std.proofs.lemmas.Bool.{cases_eq, cases_lt, cases_Bool, cond_both, cond-true, cond-false, both_ways, and_parts, ltb-true}
 use Rattle.std.proofs.lemmas.Bool.Decides.{nat_tests}
-use Rattle.network.specs.Lists.{In, any_of, gather}
+use Rattle.std.proofs.lemmas.List.Edits.{length-remove}
+use Rattle.std.proofs.lemmas.List.{length-append}
+use Rattle.network.specs.Lists.{In}
 use Rattle.network.specs.Clauses.{has, last, front, without, well_formed}
-use Rattle.network.proofs.Lists.{in_cases, kept_in, map_in, any_none, gather_in, has_in}
-use Rattle.rules.specs.Store.{Ref, live, dead, Meaning, is_at, is_dead, from, literals, sum_of, how_many, live_clauses, kept_clauses, emptied, with_use, entered, moved_ref, removed, after_retired, referred, retired, shortened, places, index_on, index_off, present, enterable, droppable}
+use Rattle.network.proofs.Lists.{in_cases, map_in, any_none, has_in}
+use Rattle.rules.specs.Store.{Ref, live, dead, Meaning, is_at, is_dead, from, literals, sum_of, how_many, live_clauses, kept_clauses, emptied, with_use, entered, moved_ref, removed, after_retired, referred, retired, shortened, filled, index_on, index_off, present, enterable, droppable}
 use Rattle.rules.specs.Lawful.{Lawful}
-use Rattle.rules.proofs.Places.{in_at, closed_in, closed_length, set_in, retired_own, retired_apart, shortened_own, shortened_apart, shortened_length}
-use Rattle.rules.proofs.Index.{append_length, live_lit, live_place, live_dead, at_is, moved_here, moved_not, removed_apart, removed_length, entered_own, entered_apart, old_stays, places_named, places_live, in_up_to}
+use Rattle.rules.proofs.Places.{in_at, closed_in, set_in, retired_own, retired_apart, shortened_own, shortened_apart, shortened_length, part_at}
+use Rattle.rules.proofs.Index.{live_lit, live_place, live_dead, at_is, removed_apart, removed_length, removed_origin, entered_cases, entered_own, old_stays, filled_named, filled_live, in_up_to}
 use Rattle.rules.proofs.HowMany.{count_either, count_more, count_kept, count_map, count_none, count_append, count_one, sum_part}
 use Rattle.rules.proofs.Once.{is_at_of, removed_once, index_once}
-use Rattle.rules.proofs.Lives.{entered_live, removed_live, removed_part, retired_live, shortened_live}
+use Rattle.rules.proofs.Lives.{entered_kept, removed_kept, removed_part, retired_live, shortened_live}
 use Rattle.rules.proofs.Formed.{Formed, formed_parts, parts_formed, front_below, front_dropped}
 
 nil_is : {X : Type 0} (xs : List X) → ((x : X) → In x xs → ⊥) → xs ≡ []
@@ -47,15 +50,6 @@ module _ (C : List ℕ) (M : Meaning) (L : Lawful M) (ok : enterable M C ≡ tru
   fC : Formed C
   fC = formed_parts C (and_parts (well_formed C) (ltb (kept_clauses M) M.room) ok).0
 
-  new_ref : Ref
-  new_ref = live (last C) (length (M.own (last C)))
-
-  own_cases : (l : ℕ) (E : List ℕ) → In E ((entered C M).own l) → In E (M.own l) ⊎ ((E ≡ C) × (l ≡ last C))
-  own_cases l E h = ⊎_elim
-      (λ e. ⊎_elim (λ j. inl (subst (λ g. In E (M.own g)) (sym e) j)) (λ j. inr (⊎_elim (λ q. q) absurd j, e))
-      (in_cases E (M.own (last C)) (C ∷ []) (subst (In E) (entered_own M C) (subst (λ g. In E ((entered C M).own g)) e h))))
-      (λ a. inl (subst (In E) (entered_apart M C l a) h)) (cases_eq l (last C))
-
   use_cases : (x : ℕ) (P : List Ref → Type 0) → (has x (front C) ≡ true → P (M.uses x ++ (live (last C) (length (M.own (last C))) ∷ []))) → P (M.uses x) → P ((entered C M).uses x)
   unfolding entered
   use_cases x P f p = cond_both (M.indexed && has x (front C)) (M.uses x ++ (live (last C) (length (M.own (last C))) ∷ [])) (M.uses x) P
@@ -70,7 +64,7 @@ module _ (C : List ℕ) (M : Meaning) (L : Lawful M) (ok : enterable M C ≡ tru
 
       new : live l i ≡ live (last C) (length (M.own (last C))) → i < length ((entered C M).own l)
       new q = subst (λ g. i < length ((entered C M).own g)) (sym (live_lit l i (last C) (length (M.own (last C))) q))
-          (omega (arith, live_place l i (last C) (length (M.own (last C))) q, ap length (entered_own M C), append_length (M.own (last C)) (C ∷ [])))
+          (omega (arith, live_place l i (last C) (length (M.own (last C))) q, ap length (entered_own M C), length-append (M.own (last C)) (C ∷ [])))
 
   entered_once : (x l i : ℕ) → how_many (is_at l i) ((entered C M).uses x) ≤ 1
   entered_once x l i = use_cases x (λ rs. how_many (is_at l i) rs ≤ 1)
@@ -95,16 +89,12 @@ module _ (C : List ℕ) (M : Meaning) (L : Lawful M) (ok : enterable M C ≡ tru
   entered_bounded x b = use_cases x (λ rs. rs ≡ []) (λ e. absurd (omega (arith, front_below C fC.order x (has_in x (front C) e), fC.small))) (L.bounded x b)
 
   entered_within : kept_clauses (entered C M) ≤ M.room
-  entered_within = sums (live_clauses (entered C M)) (live_clauses M) (entered C M).dead_clauses M.dead_clauses M.room (entered_live C M) (unfold entered in refl)
-      (ltb-true (kept_clauses M) M.room (and_parts (well_formed C) (ltb (kept_clauses M) M.room) ok).1)
-    where
-      sums : (a b c d r : ℕ) → a ≤ suc b → c ≡ d → b + d < r → a + c ≤ r
-      sums a b c d r p q s = omega arith
+  entered_within = omega (arith, entered_kept C M, ltb-true (kept_clauses M) M.room (and_parts (well_formed C) (ltb (kept_clauses M) M.room) ok).1)
 
   pub entered_lawful : Lawful (entered C M)
   entered_lawful = record {
-    formed = λ l E h. ⊎_elim (L.formed l E) (λ (q, e). ap well_formed q ∙ (and_parts (well_formed C) (ltb (kept_clauses M) M.room) ok).0) (own_cases l E h);
-    placed = λ l E h. ⊎_elim (L.placed l E) (λ (q, e). ap last q ∙ sym e) (own_cases l E h);
+    formed = λ l E h. ⊎_elim (L.formed l E) (λ (q, e). ap well_formed q ∙ (and_parts (well_formed C) (ltb (kept_clauses M) M.room) ok).0) (entered_cases M C l E h);
+    placed = λ l E h. ⊎_elim (L.placed l E) (λ (q, e). ap last q ∙ sym e) (entered_cases M C l E h);
     bounded = entered_bounded;
     named = entered_named;
     once = entered_once;
@@ -119,39 +109,12 @@ module _ (C : List ℕ) (M : Meaning) (L : Lawful M) (ok : enterable M C ≡ tru
 -- ## Removing
 
 module _ (l i : ℕ) (M : Meaning) (L : Lawful M) (li : i < length (M.own l)) where
-  removed_origin : (x : ℕ) (s : Ref) → In s ((removed l i M).uses x) → (r : Ref) × In r (M.uses x) × (is_at l i r ≡ false) × (s ≡ moved_ref l (length (M.own l) - 1) i r)
-  unfolding removed
-  removed_origin x s h =
-      let (r, k, e) = map_in (moved_ref l (length (M.own l) - 1) i) s (filter (λ r. not (is_at l i r)) (M.uses x)) h in
-      let (o, t) = kept_in (λ r. not (is_at l i r)) r (M.uses x) k in
-      (r, o, not-true (is_at l i r) t, e)
-
   -- the place of a ref after the removal is there
   moved_there : (a b k j : ℕ) → b < length (M.own a) → is_at l i (live a b) ≡ false → live k j ≡ moved_ref l (length (M.own l) - 1) i (live a b) → j < length ((removed l i M).own k)
-  moved_there a b k j lb f e = ⊎_elim at_end elsewhere (cases_Bool (is_at l (length (M.own l) - 1) (live a b)))
-    where
-      at_end : is_at l (length (M.own l) - 1) (live a b) ≡ true → j < length ((removed l i M).own k)
-      at_end t =
-          let (p, q) = at_is l (length (M.own l) - 1) a b t in
-          let w : live k j ≡ live l i = e ∙ moved_here l (length (M.own l) - 1) i a b t in
-          subst (λ g. j < length ((removed l i M).own g)) (sym (live_lit k j l i w)) (omega (arith, live_place k j l i w, removed_length M l i, not_here p, q))
-        where
-          not_here : a ≡ l → b ≡ i → ⊥
-          not_here p q = grind (arith, nat_tests)
-
-      elsewhere : is_at l (length (M.own l) - 1) (live a b) ≡ false → j < length ((removed l i M).own k)
-      elsewhere t =
-          let w : live k j ≡ live a b = e ∙ moved_not l (length (M.own l) - 1) i a b t in
-          let lj : j < length (M.own k) = subst (λ g. j < length (M.own g)) (sym (live_lit k j a b w)) (omega (arith, live_place k j a b w, lb)) in
-          ⊎_elim (λ q. subst (λ g. j < length ((removed l i M).own g)) (sym q)
-          (omega (arith, removed_length M l i, subst (λ g. j < length (M.own g)) q lj, not_end (sym (live_lit k j a b w) ∙ q), live_place k j a b w)))
-          (λ d. subst (λ xs. j < length xs) (sym (removed_apart M l i k d)) lj) (cases_eq k l)
-        where
-          not_end : a ≡ l → b ≡ length (M.own l) - 1 → ⊥
-          not_end p q = grind (arith, nat_tests)
+  moved_there a b k j lb f e = grind (arith, nat_tests, removed_length M l i, removed_apart M l i a)
 
   removed_named : (x k j : ℕ) → In (live k j) ((removed l i M).uses x) → j < length ((removed l i M).own k)
-  removed_named x k j h = go (removed_origin x (live k j) h)
+  removed_named x k j h = go (removed_origin M l i x (live k j) h)
     where
       go : (r : Ref) × In r (M.uses x) × (is_at l i r ≡ false) × (live k j ≡ moved_ref l (length (M.own l) - 1) i r) → j < length ((removed l i M).own k)
       go (dead, o, f, e) = absurd (live_dead k j e)
@@ -159,27 +122,14 @@ module _ (l i : ℕ) (M : Meaning) (L : Lawful M) (li : i < length (M.own l)) wh
 
   removed_mourned : (x : ℕ) → how_many is_dead ((removed l i M).uses x) ≤ M.dead_clauses
   unfolding removed
-  removed_mourned x = omega (
-    arith,
-    count_map is_dead (moved_ref l (length (M.own l) - 1) i) (filter (λ r. not (is_at l i r)) (M.uses x)),
-    count_more (λ r. is_dead (moved_ref l (length (M.own l) - 1) i r)) is_dead (filter (λ r. not (is_at l i r)) (M.uses x)) (λ r h. still r),
-    count_kept is_dead (λ r. not (is_at l i r)) (M.uses x),
-    L.mourned x,
-  )
-    where
-      still : (r : Ref) → is_dead (moved_ref l (length (M.own l) - 1) i r) ≡ true → is_dead r ≡ true
-      still dead e = refl
-      still (live a b) e = cond_both (is_at l (length (M.own l) - 1) (live a b)) (live l i) (live a b) (λ s. is_dead s ≡ true → is_dead (live a b) ≡ true) (λ t w. w) (λ t w. w) e
+  removed_mourned x = grind (arith, nat_tests, count_map is_dead (moved_ref l (length (M.own l) - 1) i), count_more, count_kept is_dead, L.mourned x)
 
   none_left : (x : ℕ) → M.uses x ≡ [] → (removed l i M).uses x ≡ []
   unfolding removed
   none_left x e = ap (λ rs. map (moved_ref l (length (M.own l) - 1) i) (filter (λ r. not (is_at l i r)) rs)) e
 
   removed_within : kept_clauses (removed l i M) ≤ M.room
-  removed_within = sums (live_clauses (removed l i M)) (live_clauses M) (removed l i M).dead_clauses M.dead_clauses M.room (removed_live M l i (own_small M L l i li) li) (unfold removed in refl) L.within
-    where
-      sums : (a b c d r : ℕ) → suc a ≡ b → c ≡ d → b + d ≤ r → a + c ≤ r
-      sums a b c d r p q s = omega arith
+  removed_within = omega (arith, removed_kept M l i, L.within)
 
   pub removed_lawful : Lawful (removed l i M)
   removed_lawful = record {
@@ -198,28 +148,17 @@ module _ (l i : ℕ) (M : Meaning) (L : Lawful M) (li : i < length (M.own l)) wh
 -- a ref once a place is retired
 after_cases : (l i a b : ℕ)
     → ((a ≡ l) × (b ≡ i) × (after_retired l i (live a b) ≡ dead)) ⊎ (((a ≡ l) × (i < b) × (after_retired l i (live a b) ≡ live a (b - 1))) ⊎ ((a ≡ l → b < i) × (after_retired l i (live a b) ≡ live a b)))
-after_cases l i a b = ⊎_elim
-    (λ p. ⊎_elim (λ q. inl (p, q, grind (arith, nat_tests)))
-    (λ q. ⊎_elim (λ w. inr (inl (p, w, grind (arith, nat_tests)))) (λ w. inr (inr ((λ z. omega (arith, w, q)), grind (arith, nat_tests)))) (cases_lt i b)) (cases_eq b i))
-    (λ p. inr (inr ((λ z. absurd (p z)), grind (arith, nat_tests)))) (cases_eq a l)
+after_cases l i a b = grind (arith, nat_tests, cases_lt i b, cases_eq b i, cases_eq a l)
 
 module _ (l i : ℕ) (M : Meaning) (L : Lawful M) (li : i < length (M.own l)) where
   retired_here : (k : ℕ) (E : List ℕ) → In E ((retired l i M).own k) → In E (M.own k)
-  retired_here k E h = ⊎_elim (λ e. subst (λ g. In E (M.own g)) (sym e) (closed_in (M.own l) i E (subst (In E) (retired_own M l i) (subst (λ g. In E ((retired l i M).own g)) e h))))
-      (λ a. subst (In E) (retired_apart M l i k a) h) (cases_eq k l)
+  retired_here = part_at M (retired l i M) l (retired_apart M l i) (λ E h. closed_in (M.own l) i E (subst (In E) (retired_own M l i) h))
 
   shorter : suc (length ((retired l i M).own l)) ≡ length (M.own l)
-  shorter = ap (λ xs. suc (length xs)) (retired_own M l i) ∙ closed_length (M.own l) i li
+  shorter = omega (arith, ap length (retired_own M l i), length-remove (M.own l) i li)
 
   after_there : (a b k j : ℕ) → b < length (M.own a) → live k j ≡ after_retired l i (live a b) → j < length ((retired l i M).own k)
-  after_there a b k j lb e = ⊎_elim (λ (p, q, w). absurd (live_dead k j (e ∙ w)))
-      (⊎_elim
-      (λ (p, q, w). let s = e ∙ w in subst (λ g. j < length ((retired l i M).own g)) (sym (live_lit k j a (b - 1) s ∙ p))
-      (omega (arith, live_place k j a (b - 1) s, shorter, subst (λ g. b < length (M.own g)) p lb, q)))
-      (λ (f, w). let s = e ∙ w in subst (λ g. j < length ((retired l i M).own g)) (sym (live_lit k j a b s))
-      (⊎_elim (λ q. subst (λ g. j < length ((retired l i M).own g)) (sym q) (omega (arith, live_place k j a b s, shorter, f q, li)))
-      (λ d. subst (λ xs. j < length xs) (sym (retired_apart M l i a d)) (omega (arith, live_place k j a b s, lb))) (cases_eq a l))))
-      (after_cases l i a b)
+  after_there a b k j lb e = grind (arith, nat_tests, after_cases l i a b, retired_own M l i, retired_apart M l i a, shorter)
 
   retired_named : (x k j : ℕ) → In (live k j) ((retired l i M).uses x) → j < length ((retired l i M).own k)
   retired_named x k j h = go (origin h)
@@ -255,21 +194,16 @@ module _ (l i : ℕ) (M : Meaning) (L : Lawful M) (li : i < length (M.own l)) wh
 
   retired_once : (x k j : ℕ) → how_many (is_at k j) ((retired l i M).uses x) ≤ 1
   unfolding retired
-  retired_once x k j = omega (
-    arith,
-    count_map (is_at k j) (after_retired l i) (M.uses x),
-    count_more (λ r. is_at k j (after_retired l i r)) (is_at k (before k j)) (M.uses x) (λ r h. before_is k j r),
-    L.once x k (before k j),
-  )
+  retired_once x k j = grind (arith, nat_tests, count_map (is_at k j) (after_retired l i) (M.uses x), count_more, before k j, before_is k j, L.once x k (before k j))
 
   dead_after : (r : Ref) → is_dead (after_retired l i r) ≡ true → (is_dead r ≡ true) ⊎ (is_at l i r ≡ true)
   dead_after dead e = inl refl
-  dead_after (live a b) e = ⊎_elim (λ (p, q, w). inr (grind (arith, nat_tests))) (⊎_elim (λ (p, q, w). inl (ap is_dead (sym w) ∙ e)) (λ (f, w). inl (ap is_dead (sym w) ∙ e))) (after_cases l i a b)
+  dead_after (live a b) e = grind (arith, nat_tests)
 
   -- a literal that refers to the place, if the store has none
   unreferred : (x : ℕ) → referred M l i ≡ false → how_many (is_at l i) (M.uses x) ≡ 0
   unreferred x f = ⊎_elim
-      (λ b. count_none (is_at l i) (M.uses x) (λ r h e. both_ways (is_at l i r) (any_none (is_at l i) (M.uses x) (any_none (λ x. any_of (is_at l i) (M.uses x)) literals f x (in_up_to 2048 x b)) r h) e))
+      (λ b. count_none (is_at l i) (M.uses x) (λ r h e. both_ways (is_at l i r) (any_none (is_at l i) (M.uses x) (any_none (λ x. list_any (is_at l i) (M.uses x)) literals f x (in_up_to 2048 x b)) r h) e))
       (λ b. ap (how_many (is_at l i)) (L.bounded x b) ∙ unfold how_many in refl) (cases_lt x 2048)
 
   retired_mourned : (x : ℕ) → how_many is_dead ((retired l i M).uses x) ≤ cond (referred M l i) (suc M.dead_clauses) M.dead_clauses
@@ -285,11 +219,9 @@ module _ (l i : ℕ) (M : Meaning) (L : Lawful M) (li : i < length (M.own l)) wh
   none_retired x e = ap (map (after_retired l i)) e
 
   retired_within : kept_clauses (retired l i M) ≤ M.room
-  retired_within = sums (live_clauses (retired l i M)) (live_clauses M) (retired l i M).dead_clauses M.dead_clauses M.room (retired_live M l i (own_small M L l i li) li)
-      (unfold retired in (cond_both (referred M l i) (suc M.dead_clauses) M.dead_clauses (λ n. n ≤ suc M.dead_clauses) (λ e. omega arith) (λ e. omega arith))) L.within
-    where
-      sums : (a b c d r : ℕ) → suc a ≡ b → c ≤ suc d → b + d ≤ r → a + c ≤ r
-      sums a b c d r p q s = omega arith
+  retired_within =
+      let d : (retired l i M).dead_clauses ≤ suc M.dead_clauses = unfold retired in (cond_both (referred M l i) (suc M.dead_clauses) M.dead_clauses (λ n. n ≤ suc M.dead_clauses) (λ e. omega arith) (λ e. omega arith)) in
+      omega (arith, retired_live M l i (own_small M L l i li) li, d, L.within)
 
   pub retired_lawful : Lawful (retired l i M)
   retired_lawful = record {
@@ -303,9 +235,9 @@ module _ (l i : ℕ) (M : Meaning) (L : Lawful M) (li : i < length (M.own l)) wh
     unindexed = λ e. let (u, d) = L.unindexed (unfold retired in e) in ((λ x. none_retired x (u x)), unfold retired in (no_dead u d));
   }
     where
-      no_ref : ((x : ℕ) → M.uses x ≡ []) → (xs : List ℕ) → any_of (λ x. any_of (is_at l i) (M.uses x)) xs ≡ false
+      no_ref : ((x : ℕ) → M.uses x ≡ []) → (xs : List ℕ) → list_any (λ x. list_any (is_at l i) (M.uses x)) xs ≡ false
       no_ref u [] = refl
-      no_ref u (x ∷ xs) = ap (λ rs. any_of (is_at l i) rs || any_of (λ x. any_of (is_at l i) (M.uses x)) xs) (u x) ∙ no_ref u xs
+      no_ref u (x ∷ xs) = ap (λ rs. list_any (is_at l i) rs || list_any (λ x. list_any (is_at l i) (M.uses x)) xs) (u x) ∙ no_ref u xs
 
       no_dead : ((x : ℕ) → M.uses x ≡ []) → M.dead_clauses ≡ 0 → cond (referred M l i) (suc M.dead_clauses) M.dead_clauses ≡ 0
       no_dead u d = ap (λ b. cond b (suc M.dead_clauses) M.dead_clauses) (no_ref u literals) ∙ d
@@ -328,10 +260,7 @@ module _ (l i x : ℕ) (M : Meaning) (L : Lawful M) (ok : droppable M l i x ≡ 
       (λ a. inl (subst (In E) (shortened_apart M l i x k a) h)) (cases_eq k l)
 
   shortened_within : kept_clauses (shortened l i x M) ≤ M.room
-  shortened_within = sums (live_clauses (shortened l i x M)) (live_clauses M) (shortened l i x M).dead_clauses M.dead_clauses M.room (shortened_live M l i x) (unfold shortened in refl) L.within
-    where
-      sums : (a b c d r : ℕ) → a ≡ b → c ≡ d → b + d ≤ r → a + c ≤ r
-      sums a b c d r p q s = omega arith
+  shortened_within = let d : (shortened l i x M).dead_clauses ≡ M.dead_clauses = unfold shortened in refl in omega (arith, shortened_live M l i x, d, L.within)
 
   pub shortened_lawful : Lawful (shortened l i x M)
   shortened_lawful = record {
@@ -348,49 +277,36 @@ module _ (l i x : ℕ) (M : Meaning) (L : Lawful M) (ok : droppable M l i x ≡ 
 -- ## The index
 
 module _ (M : Meaning) (L : Lawful M) where
-  indexed_now : Meaning
-  indexed_now = record { room = M.room; indexed = true; own = M.own; uses = λ x. gather (λ l. places x l 0 (M.own l)) literals; dead_clauses = 0 }
-
-  index_is : M.indexed ≡ false → index_on M ≡ indexed_now
-  unfolding index_on indexed_now
-  index_is off = ap (λ b. cond b M (record { room = M.room; indexed = true; own = M.own; uses = λ x. gather (λ l. places x l 0 (M.own l)) literals; dead_clauses = 0 })) off
+  index_is : M.indexed ≡ false → index_on M ≡ filled M
+  unfolding index_on
+  index_is = cond-false M.indexed M (filled M)
 
   index_stays : M.indexed ≡ true → index_on M ≡ M
   unfolding index_on
-  index_stays on = ap (λ b. cond b M (record { room = M.room; indexed = true; own = M.own; uses = λ x. gather (λ l. places x l 0 (M.own l)) literals; dead_clauses = 0 })) on
+  index_stays = cond-true M.indexed M (filled M)
 
-  use_named : (x l i : ℕ) → In (live l i) (gather (λ l. places x l 0 (M.own l)) literals) → (i < length (M.own l)) × In x (front (get_or (M.own l) i []))
-  use_named x l i h =
-      let (k, a, p) = gather_in (λ l. places x l 0 (M.own l)) literals (live l i) h in
-      let (e, b, c, d) = places_named x k (M.own k) 0 l i p in
-      subst (λ g. (i < length (M.own g)) × In x (front (get_or (M.own g) i []))) (sym e) (omega arith, subst (λ t. In x (front (get_or (M.own k) t []))) (omega arith) d)
-
-  no_dead_use : (x : ℕ) → In dead (gather (λ l. places x l 0 (M.own l)) literals) → ⊥
-  no_dead_use x h = let (l, a, p) = gather_in (λ l. places x l 0 (M.own l)) literals dead h in places_live x l (M.own l) 0 p
-
-  no_far_use : (x : ℕ) → 2048 ≤ x → (r : Ref) → In r (gather (λ l. places x l 0 (M.own l)) literals) → ⊥
-  no_far_use x b dead h = no_dead_use x h
+  no_far_use : (x : ℕ) → 2048 ≤ x → (r : Ref) → In r ((filled M).uses x) → ⊥
+  no_far_use x b dead h = filled_live M x h
   no_far_use x b (live l i) h =
-      let (li, f) = use_named x l i h in
+      let (li, f) = filled_named M x l i h in
       let F = formed_parts (get_or (M.own l) i []) (L.formed l (get_or (M.own l) i []) (in_at (M.own l) i [] li)) in
       omega (arith, front_below (get_or (M.own l) i []) F.order x f, F.small)
 
-  indexed_within : kept_clauses indexed_now ≤ M.room
-  unfolding indexed_now live_clauses
+  indexed_within : kept_clauses (filled M) ≤ M.room
+  unfolding live_clauses
   indexed_within = sums (sum_of (map (λ l. length (M.own l)) literals)) M.dead_clauses M.room L.within
     where
       sums : (a d r : ℕ) → a + d ≤ r → a + 0 ≤ r
       sums a d r p = omega arith
 
-  indexed_lawful : M.indexed ≡ false → Lawful indexed_now
-  unfolding indexed_now
+  indexed_lawful : M.indexed ≡ false → Lawful (filled M)
   indexed_lawful off = record {
     formed = L.formed;
     placed = L.placed;
-    bounded = λ x b. nil_is (gather (λ l. places x l 0 (M.own l)) literals) (no_far_use x b);
-    named = λ x l i h. (use_named x l i h).0;
+    bounded = λ x b. nil_is ((filled M).uses x) (no_far_use x b);
+    named = λ x l i h. (filled_named M x l i h).0;
     once = subst (λ N. (x l i : ℕ) → how_many (is_at l i) (N.uses x) ≤ 1) (index_is off) (index_once M off);
-    mourned = λ x. omega (arith, count_none is_dead (gather (λ l. places x l 0 (M.own l)) literals) (λ r h e. no_dead_use x (subst (λ s. In s (gather (λ l. places x l 0 (M.own l)) literals)) (is_dead_of r e) h)));
+    mourned = λ x. omega (arith, count_none is_dead ((filled M).uses x) (λ r h e. filled_live M x (subst (λ s. In s ((filled M).uses x)) (is_dead_of r e) h)));
     within = indexed_within;
     unindexed = λ e. absurd (both_ways true e refl);
   }
@@ -403,7 +319,6 @@ module _ (M : Meaning) (L : Lawful M) where
   index_on_lawful = ⊎_elim (λ on. subst Lawful (sym (index_stays on)) L) (λ off. subst Lawful (sym (index_is off)) (indexed_lawful off)) (cases_Bool M.indexed)
 
   pub index_on_room : (index_on M).room ≡ M.room
-  unfolding indexed_now
   index_on_room = ⊎_elim (λ on. ap (λ N. N.room) (index_stays on)) (λ off. ap (λ N. N.room) (index_is off)) (cases_Bool M.indexed)
 
   unindexed_within : kept_clauses (index_off M) ≤ M.room
@@ -431,10 +346,7 @@ none_live (suc n) i = omega (arith, none_live n (suc i))
 
 pub emptied_none : (M : Meaning) → kept_clauses (emptied M) ≡ 0
 unfolding live_clauses
-emptied_none M = sums (sum_of (map (λ (l : ℕ). length {A = List ℕ} []) (from 0 2048))) (none_live 2048 0)
-  where
-    sums : (a : ℕ) → a ≡ 0 → a + 0 ≡ 0
-    sums a e = omega arith
+emptied_none M = omega (arith, none_live 2048 0)
 
 pub emptied_lawful : (M : Meaning) → Lawful (emptied M)
 emptied_lawful M = record {
@@ -444,9 +356,6 @@ emptied_lawful M = record {
   named = λ x l i h. absurd h;
   once = λ x l i. unfold how_many in (omega arith);
   mourned = λ x. unfold how_many in (omega arith);
-  within = sums (kept_clauses (emptied M)) M.room (emptied_none M);
+  within = omega (arith, emptied_none M);
   unindexed = λ e. ((λ x. refl), refl);
 }
-  where
-    sums : (a r : ℕ) → a ≡ 0 → a ≤ r
-    sums a r e = omega arith

@@ -1,5 +1,5 @@
 -- The simplification of a list of clauses says the same. Assumes nothing.
-use Rattle.std.proofs.Common.{◌≡◌, ℕ, zero, suc, Bool, true, false, not, eqb, ltb, List, [], ◌∷◌, length, Some, None, Option, sym, refl, ap, ◌∙◌, subst, inl, inr, ⊎_elim, arith}
+use Rattle.std.proofs.Common.{◌≡◌, ℕ, zero, suc, Bool, true, false, not, eqb, List, [], ◌∷◌, length, Some, None, Option, sym, refl, ap, ◌∙◌, subst, inl, inr, ⊎_elim, arith}
 use Rattle.std.proofs.lemmas.Bool.{cond_both, eqb-true}
 use Rattle.network.specs.Assignments.{Assignment, opposite, holds}
 use Rattle.network.specs.Lists.{In}
@@ -118,24 +118,22 @@ swept_is (D ∷ Ds) C o = met_is C D Ds o (λ B ob. swept_is Ds B ob) (fits_but_
 placed_in : (C : List ℕ) (Ds : List (List ℕ)) (E : List ℕ) → In E (placed C Ds) → In E (C ∷ Ds)
 unfolding placed
 placed_in C [] E i = i
-placed_in C (D ∷ Ds) E i = cond_both (ltb (length D) (length C)) (D ∷ placed C Ds) (C ∷ D ∷ Ds) (λ xs. In E xs → In E (C ∷ D ∷ Ds))
-    (λ e j. ⊎_elim (λ q. inr (inl q)) (λ k. ⊎_elim inl (λ m. inr (inr m)) (placed_in C Ds E k)) j) (λ e j. j) i
+placed_in C (D ∷ Ds) E i = grind (arith, placed_in C Ds E)
 
 in_placed : (C : List ℕ) (Ds : List (List ℕ)) (E : List ℕ) → In E (C ∷ Ds) → In E (placed C Ds)
 unfolding placed
 in_placed C [] E i = i
-in_placed C (D ∷ Ds) E i = cond_both (ltb (length D) (length C)) (D ∷ placed C Ds) (C ∷ D ∷ Ds) (In E)
-    (λ e. ⊎_elim (λ q. inr (in_placed C Ds E (inl q))) (⊎_elim inl (λ k. inr (in_placed C Ds E (inr k)))) i) (λ e. i)
+in_placed C (D ∷ Ds) E i = grind (arith, in_placed C Ds E)
 
 sorted_in : (Cs : List (List ℕ)) (E : List ℕ) → In E (by_length Cs) → In E Cs
 unfolding by_length
 sorted_in [] E i = i
-sorted_in (C ∷ Cs) E i = ⊎_elim inl (λ j. inr (sorted_in Cs E j)) (placed_in C (by_length Cs) E i)
+sorted_in (C ∷ Cs) E i = grind (arith, sorted_in Cs E, placed_in C (by_length Cs) E)
 
 in_sorted : (Cs : List (List ℕ)) (E : List ℕ) → In E Cs → In E (by_length Cs)
 unfolding by_length
 in_sorted [] E i = i
-in_sorted (C ∷ Cs) E i = in_placed C (by_length Cs) E (⊎_elim inl (λ j. inr (in_sorted Cs E j)) i)
+in_sorted (C ∷ Cs) E i = grind (arith, in_sorted Cs E, in_placed C (by_length Cs) E)
 
 from_is : (f : ℕ) (Cs : List (List ℕ)) → OrderedAll Cs → SaysSame Cs (lemmas_from f Cs)
 unfolding lemmas_from
@@ -150,6 +148,4 @@ from_is (suc f) (C ∷ Cs) o =
 
 pub lemmas_is : (Cs : List (List ℕ)) → OrderedAll Cs → SaysSame Cs (lemmas Cs)
 unfolding lemmas
-lemmas_is Cs o =
-    let s = simp_same Cs (by_length Cs) o (in_sorted Cs) (sorted_in Cs) in
-    simp_trans Cs (by_length Cs) (lemmas_from (length Cs) (by_length Cs)) s (from_is (length Cs) (by_length Cs) s.ordered)
+lemmas_is Cs o = grind (arith, simp_same Cs (by_length Cs) o (in_sorted Cs) (sorted_in Cs), in_sorted Cs, sorted_in Cs, simp_trans Cs (by_length Cs) (lemmas_from (length Cs) (by_length Cs)), from_is (length Cs) (by_length Cs))

@@ -18,6 +18,7 @@ pub mod Once
 pub mod Lives
 pub mod Clear
 pub mod Lawful
+pub mod Along
 pub mod Passes
 pub mod Adds
 pub mod TakenOut

@@ -1,39 +1,54 @@
 -- How many clauses are live after a change. Assumes nothing.
-use Rattle.std.proofs.Common.{◌≡◌, ℕ, suc, ◌-◌, ◌<◌, ◌≤◌, Bool, true, false, List, [], ◌∷◌, map, length, get_or, sym, refl, ap, ◌∙◌, subst, ⊎_elim, arith}
+use Rattle.std.proofs.Common.{◌≡◌, ℕ, suc, ◌-◌, ◌<◌, ◌≤◌, List, [], ◌∷◌, map, length, get_or, sym, refl, ap, ◌∙◌, subst, ⊎_elim, arith, Bool}
+use Rattle.std.specs.List.{swap_remove}
 use Rattle.std.proofs.lemmas.Bool.{cases_eq, cond_both, ltb-true}
+use Rattle.std.proofs.lemmas.List.Edits.{length-remove}
+use Rattle.std.proofs.lemmas.List.{length-append}
 use Rattle.network.specs.Lists.{In}
 use Rattle.network.specs.Clauses.{last}
-use Rattle.rules.specs.Store.{Meaning, literals, sum_of, live_clauses, entered, removed, retired, shortened, swap_out, index_on, index_off, present, droppable, retire, shorten}
-use Rattle.rules.proofs.Places.{in_at, at_in, closed_length, retired_own, retired_apart, shortened_length}
-use Rattle.rules.proofs.Index.{append_length, removed_own, removed_apart, removed_length, swap_length, swap_here, swap_other, entered_own, entered_apart}
+use Rattle.rules.specs.Store.{Meaning, literals, sum_of, live_clauses, kept_clauses, entered, removed, retired, shortened, index_on, index_off, droppable, retire, shorten}
+use Rattle.rules.proofs.Places.{in_at, at_in, retired_own, retired_apart, shortened_length, part_at}
+use Rattle.rules.proofs.Index.{removed_own, removed_apart, removed_length, swap_length, swap_here, swap_other, entered_own, entered_apart}
+use Rattle.rules.proofs.Along.{fewer_chains, allowed_along, clear_along}
 use Rattle.rules.proofs.HowMany.{sum_apart, sum_less, sum_up, sum_le}
-use Rattle.rules.proofs.Facts.{le_same}
+use Rattle.rules.specs.Work.{clear}
 
 pub entered_live : (C : List ℕ) (M : Meaning) → live_clauses (entered C M) ≤ suc (live_clauses M)
 unfolding live_clauses
 entered_live C M = sum_up (λ k. length ((entered C M).own k)) (λ k. length (M.own k)) (last C) 2048 0
-    (omega (arith, ap length (entered_own M C), append_length (M.own (last C)) (C ∷ []))) (λ k a. ap length (entered_apart M C k a))
+    (omega (arith, ap length (entered_own M C), length-append (M.own (last C)) (C ∷ []))) (λ k a. ap length (entered_apart M C k a))
+
+pub entered_kept : (C : List ℕ) (M : Meaning) → kept_clauses (entered C M) ≤ suc (kept_clauses M)
+entered_kept C M = let d : (entered C M).dead_clauses ≡ M.dead_clauses = unfold entered in refl in omega (arith, entered_live C M)
+
+-- one list with a clause less, and one that is no longer
+less_at : (M N : Meaning) (l : ℕ) → l < 2048 → ((k : ℕ) → (k ≡ l → ⊥) → N.own k ≡ M.own k) → suc (length (N.own l)) ≡ length (M.own l) → suc (live_clauses N) ≡ live_clauses M
+unfolding live_clauses
+less_at M N l b a e = sum_less (λ k. length (N.own k)) (λ k. length (M.own k)) l 2048 0 (omega arith) (omega arith) e (λ k d. ap length (a k d))
+
+fewer_at : (M N : Meaning) (l : ℕ) → ((k : ℕ) → (k ≡ l → ⊥) → N.own k ≡ M.own k) → length (N.own l) ≤ length (M.own l) → live_clauses N ≤ live_clauses M
+unfolding live_clauses
+fewer_at M N l a h = sum_le (λ k. length (N.own k)) (λ k. length (M.own k)) 2048 0
+    (λ k. ⊎_elim (λ e. subst (λ g. length (N.own g) ≤ length (M.own g)) (sym e) h) (λ d. omega (arith, ap length (a k d))) (cases_eq k l))
 
 pub removed_live : (M : Meaning) (l i : ℕ) → l < 2048 → i < length (M.own l) → suc (live_clauses (removed l i M)) ≡ live_clauses M
-unfolding live_clauses
-removed_live M l i b li = sum_less (λ k. length ((removed l i M).own k)) (λ k. length (M.own k)) l 2048 0 (omega arith) (omega arith)
-    (omega (arith, removed_length M l i)) (λ k a. ap length (removed_apart M l i k a))
+removed_live M l i b li = less_at M (removed l i M) l b (removed_apart M l i) (omega (arith, removed_length M l i))
 
-swap_part : (i : ℕ) (xs : List (List ℕ)) (E : List ℕ) → In E (swap_out [] i xs) → In E xs
+swap_part : (i : ℕ) (xs : List (List ℕ)) (E : List ℕ) → In E (swap_remove xs i []) → In E xs
 swap_part i xs E h =
-    let (j, lj, e) = at_in (swap_out [] i xs) E [] h in
+    let (j, lj, e) = at_in (swap_remove xs i []) E [] h in
     let lt : j < length xs - 1 = omega (arith, swap_length [] i xs) in
-    ⊎_elim (λ q. subst (λ D. In D xs) (sym (swap_here [] i xs (omega (arith, q))) ∙ ap (λ g. get_or (swap_out [] i xs) g []) (sym q) ∙ e) (in_at xs (length xs - 1) [] (omega arith)))
+    ⊎_elim (λ q. subst (λ D. In D xs) (sym (swap_here [] i xs (omega (arith, q))) ∙ ap (λ g. get_or (swap_remove xs i []) g []) (sym q) ∙ e) (in_at xs (length xs - 1) [] (omega arith)))
     (λ a. subst (λ D. In D xs) (sym (swap_other [] i j xs lt a) ∙ e) (in_at xs j [] (omega arith))) (cases_eq j i)
 
 pub removed_part : (M : Meaning) (l i k : ℕ) (E : List ℕ) → In E ((removed l i M).own k) → In E (M.own k)
-removed_part M l i k E h = ⊎_elim (λ e. subst (λ g. In E (M.own g)) (sym e) (swap_part i (M.own l) E (subst (In E) (removed_own M l i) (subst (λ g. In E ((removed l i M).own g)) e h))))
-    (λ a. subst (In E) (removed_apart M l i k a) h) (cases_eq k l)
+removed_part M l i = part_at M (removed l i M) l (removed_apart M l i) (λ E h. swap_part i (M.own l) E (subst (In E) (removed_own M l i) h))
+
+pub clear_part : (l : ℕ) (marks : List Bool) (M : Meaning) (k : ℕ) (E : List ℕ) → In E ((clear l marks M).own k) → In E (M.own k)
+clear_part l marks M k E = clear_along (λ M N. In E (N.own k) → In E (M.own k)) (record { same = λ M h. h; next = λ M N P f g h. f (g h) }) (λ l i M h. removed_part M l i k E) l marks M
 
 pub retired_live : (M : Meaning) (l i : ℕ) → l < 2048 → i < length (M.own l) → suc (live_clauses (retired l i M)) ≡ live_clauses M
-unfolding live_clauses
-retired_live M l i b li = sum_less (λ k. length ((retired l i M).own k)) (λ k. length (M.own k)) l 2048 0 (omega arith) (omega arith)
-    (ap (λ xs. suc (length xs)) (retired_own M l i) ∙ closed_length (M.own l) i li) (λ k a. ap length (retired_apart M l i k a))
+retired_live M l i b li = less_at M (retired l i M) l b (retired_apart M l i) (omega (arith, ap length (retired_own M l i), length-remove (M.own l) i li))
 
 pub shortened_live : (M : Meaning) (l i x : ℕ) → live_clauses (shortened l i x M) ≡ live_clauses M
 unfolding live_clauses
@@ -47,18 +62,18 @@ pub unindex_live : (M : Meaning) → live_clauses (index_off M) ≡ live_clauses
 unfolding index_off live_clauses
 unindex_live M = refl
 
-pub removed_fewer : (M : Meaning) (l i : ℕ) → live_clauses (removed l i M) ≤ live_clauses M
-unfolding live_clauses
-removed_fewer M l i = sum_le (λ k. length ((removed l i M).own k)) (λ k. length (M.own k)) 2048 0
-    (λ k. ⊎_elim (λ e. subst (λ g. length ((removed l i M).own g) ≤ length (M.own g)) (sym e) (omega (arith, removed_length M l i))) (λ a. omega (arith, ap length (removed_apart M l i k a))) (cases_eq k l))
+-- a removal leaves no more clauses, and as many dead ones
+pub removed_dead : (M : Meaning) (l i : ℕ) → (removed l i M).dead_clauses ≡ M.dead_clauses
+unfolding removed
+removed_dead M l i = refl
+
+pub removed_kept : (M : Meaning) (l i : ℕ) → kept_clauses (removed l i M) ≤ kept_clauses M
+removed_kept M l i = omega (arith, fewer_at M (removed l i M) l (removed_apart M l i) (omega (arith, removed_length M l i)), removed_dead M l i)
 
 pub retire_fewer : (l i : ℕ) (M : Meaning) → live_clauses (retire l i M).0 ≤ live_clauses M
-unfolding live_clauses retire
-retire_fewer l i M = cond_both {A = Meaning × Bool} (present M l i) (retired l i M, true) (M, false) (λ r. sum_of (map (λ k. length (r.0.own k)) literals) ≤ sum_of (map (λ k. length (M.own k)) literals))
-    (λ e. sum_le (λ k. length ((retired l i M).own k)) (λ k. length (M.own k)) 2048 0
-    (λ k. ⊎_elim (λ q. subst (λ g. length ((retired l i M).own g) ≤ length (M.own g)) (sym q) (omega (arith, ap length (retired_own M l i), closed_length (M.own l) i (ltb-true i (length (M.own l)) e)))) (λ a. omega (arith, ap length (retired_apart M l i k a))) (cases_eq k l)))
-    (λ e. le_same (sum_of (map (λ k. length (M.own k)) literals)))
+unfolding retire
+retire_fewer l i M = grind (arith, allowed_along, fewer_chains live_clauses, fewer_at, retired_apart, retired_own, length-remove, ltb-true i)
 
-pub shorten_same : (l i x : ℕ) (M : Meaning) → live_clauses (shorten l i x M).0 ≡ live_clauses M
+pub shorten_fewer : (l i x : ℕ) (M : Meaning) → live_clauses (shorten l i x M).0 ≤ live_clauses M
 unfolding shorten
-shorten_same l i x M = cond_both {A = Meaning × Bool} (droppable M l i x) (shortened l i x M, true) (M, false) (λ r. live_clauses r.0 ≡ live_clauses M) (λ e. shortened_live M l i x) (λ e. refl)
+shorten_fewer l i x M = allowed_along (λ M N. live_clauses N ≤ live_clauses M) (fewer_chains live_clauses) (droppable M l i x) M (shortened l i x M) (λ e. omega (arith, shortened_live M l i x))

@@ -1,10 +1,9 @@
 -- No list of uses has a place twice. Assumes nothing.
-use Rattle.std.proofs.Common.{◌≡◌, ℕ, zero, suc, ◌-◌, ◌<◌, ◌≤◌, true, false, cond, not, ◌⊎◌, List, [], ◌∷◌, length, filter, sym, refl, ap, ◌∙◌, subst, inl, inr, ⊎_elim, arith}
-use Rattle.std.proofs.lemmas.Bool.{cases_eq, cases_Bool, cond_both, both_ways, not-true}
-use Rattle.network.specs.Lists.{In, gather}
-use Rattle.network.specs.Clauses.{has, front}
+use Rattle.std.proofs.Common.{◌≡◌, ℕ, zero, suc, ◌-◌, ◌<◌, ◌≤◌, true, false, cond, not, ◌⊎◌, List, [], ◌∷◌, length, filter, sym, refl, ap, ◌∙◌, subst, inl, ⊎_elim, arith, flat_map}
+use Rattle.std.proofs.lemmas.Bool.{cases_eq, cases_Bool, both_ways, not-true}
+use Rattle.network.specs.Lists.{In}
 use Rattle.network.proofs.Lists.{kept_in}
-use Rattle.rules.specs.Store.{Ref, live, dead, Meaning, is_at, from, literals, how_many, moved_ref, removed, places, index_on}
+use Rattle.rules.specs.Store.{Ref, live, dead, Meaning, is_at, from, how_many, moved_ref, removed, places, index_on, filled}
 use Rattle.rules.proofs.Index.{at_is, is_here}
 use Rattle.rules.proofs.HowMany.{count_more, count_kept, count_map, count_append}
 
@@ -28,8 +27,7 @@ removed_once M l i o x k j = subst (λ n. n ≤ 1) (sym (count_map (is_at k j) (
     ys = filter (λ r. not (is_at l i r)) (M.uses x)
 
     moved_cases : (r : Ref) → is_at k j (moved_ref l (length (M.own l) - 1) i r) ≡ true → ((is_at l (length (M.own l) - 1) r ≡ true) × (is_at l i (live k j) ≡ true)) ⊎ (is_at k j r ≡ true)
-    moved_cases r e = cond_both (is_at l (length (M.own l) - 1) r) (live l i) r (λ s. is_at k j s ≡ true → ((is_at l (length (M.own l) - 1) r ≡ true) × (is_at l i (live k j) ≡ true)) ⊎ (is_at k j r ≡ true))
-        (λ t q. inl (t, let (a, b) = at_is k j l i q in subst (λ g. is_at l i (live g j) ≡ true) a (subst (λ g. is_at l i (live l g) ≡ true) b (is_here l i)))) (λ t q. inr q) e
+    moved_cases r e = grind (arith, at_is k j l i, is_here l i)
 
     here : is_at l i (live k j) ≡ true → how_many (λ r. is_at k j (moved_ref l (length (M.own l) - 1) i r)) ys ≤ 1
     here t =
@@ -48,41 +46,29 @@ removed_once M l i o x k j = subst (λ n. n ≤ 1) (sym (count_map (is_at k j) (
 pub places_low : (x l : ℕ) (Cs : List (List ℕ)) (i k j : ℕ) → ((k ≡ l → ⊥) ⊎ (j < i)) → how_many (is_at k j) (places x l i Cs) ≡ 0
 unfolding places how_many
 places_low x l [] i k j h = refl
-places_low x l (C ∷ Cs) i k j h =
-    let r = places_low x l Cs (suc i) k j (⊎_elim inl (λ q. inr (omega arith)) h) in
-    cond_both (has x (front C)) (live l i ∷ places x l (suc i) Cs) (places x l (suc i) Cs) (λ rs. how_many (is_at k j) rs ≡ 0)
-    (λ e. cond_both (is_at k j (live l i)) (suc (how_many (is_at k j) (places x l (suc i) Cs))) (how_many (is_at k j) (places x l (suc i) Cs)) (λ m. m ≡ 0)
-    (λ t. absurd (apart (at_is k j l i t) h)) (λ t. r)) (λ e. r)
-  where
-    apart : (l ≡ k) × (i ≡ j) → (k ≡ l → ⊥) ⊎ (j < i) → ⊥
-    apart (p, q) (inl a) = a (sym p)
-    apart (p, q) (inr a) = omega (arith, q, a)
+places_low x l (C ∷ Cs) i k j h = grind (arith, places_low x l Cs (suc i) k j, at_is k j l i)
 
 pub places_once : (x l : ℕ) (Cs : List (List ℕ)) (i k j : ℕ) → how_many (is_at k j) (places x l i Cs) ≤ 1
 unfolding places how_many
 places_once x l [] i k j = omega arith
-places_once x l (C ∷ Cs) i k j =
-    let r = places_once x l Cs (suc i) k j in
-    cond_both (has x (front C)) (live l i ∷ places x l (suc i) Cs) (places x l (suc i) Cs) (λ rs. how_many (is_at k j) rs ≤ 1)
-    (λ e. cond_both (is_at k j (live l i)) (suc (how_many (is_at k j) (places x l (suc i) Cs))) (how_many (is_at k j) (places x l (suc i) Cs)) (λ m. m ≤ 1)
-    (λ t. let (p, q) = at_is k j l i t in omega (arith, places_low x l Cs (suc i) k j (inr (omega (arith, q))))) (λ t. r)) (λ e. r)
+places_once x l (C ∷ Cs) i k j = grind (arith, places_once x l Cs (suc i) k j, at_is k j l i, places_low x l Cs (suc i) k j)
 
 module _ (M : Meaning) (x : ℕ) where
   every : ℕ → List Ref
   every l = places x l 0 (M.own l)
 
-  gather_low : (m i k j : ℕ) → k < i → how_many (is_at k j) (gather every (from i m)) ≡ 0
-  unfolding gather how_many every
-  gather_low zero i k j l = refl
-  gather_low (suc m) i k j l = omega (arith, count_append (is_at k j) (every i) (gather every (from (suc i) m)), places_low x i (M.own i) 0 k j (inl (λ e. omega arith)), gather_low m (suc i) k j (omega arith))
+  every_low : (m i k j : ℕ) → k < i → how_many (is_at k j) (flat_map every (from i m)) ≡ 0
+  unfolding how_many every
+  every_low zero i k j l = refl
+  every_low (suc m) i k j l = omega (arith, count_append (is_at k j) (every i) (flat_map every (from (suc i) m)), places_low x i (M.own i) 0 k j (inl (λ e. omega arith)), every_low m (suc i) k j (omega arith))
 
-  gather_once : (m i k j : ℕ) → how_many (is_at k j) (gather every (from i m)) ≤ 1
-  unfolding gather how_many every
-  gather_once zero i k j = omega arith
-  gather_once (suc m) i k j = ⊎_elim
-      (λ e. omega (arith, count_append (is_at k j) (every i) (gather every (from (suc i) m)), places_once x i (M.own i) 0 k j, gather_low m (suc i) k j (omega (arith, e))))
-      (λ a. omega (arith, count_append (is_at k j) (every i) (gather every (from (suc i) m)), places_low x i (M.own i) 0 k j (inl a), gather_once m (suc i) k j)) (cases_eq k i)
+  every_once : (m i k j : ℕ) → how_many (is_at k j) (flat_map every (from i m)) ≤ 1
+  unfolding how_many every
+  every_once zero i k j = omega arith
+  every_once (suc m) i k j = ⊎_elim
+      (λ e. omega (arith, count_append (is_at k j) (every i) (flat_map every (from (suc i) m)), places_once x i (M.own i) 0 k j, every_low m (suc i) k j (omega (arith, e))))
+      (λ a. omega (arith, count_append (is_at k j) (every i) (flat_map every (from (suc i) m)), places_low x i (M.own i) 0 k j (inl a), every_once m (suc i) k j)) (cases_eq k i)
 
 pub index_once : (M : Meaning) → M.indexed ≡ false → Once (index_on M)
 unfolding index_on every
-index_once M off = subst (λ b. Once (cond b M (record { room = M.room; indexed = true; own = M.own; uses = λ x. gather (λ l. places x l 0 (M.own l)) literals; dead_clauses = 0 }))) (sym off) (λ x k j. gather_once M x 2048 0 k j)
+index_once M off = subst (λ b. Once (cond b M (filled M))) (sym off) (λ x k j. every_once M x 2048 0 k j)

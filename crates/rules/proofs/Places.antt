@@ -1,12 +1,15 @@
 -- Lists by places, and the network of a store. Assumes nothing.
-use Rattle.std.proofs.Common.{◌≡◌, ℕ, zero, suc, ◌+◌, ◌-◌, ◌*◌, ◌<◌, ◌≤◌, cond, ltb, ◌⊎◌, List, [], ◌∷◌, length, get_or, set, sym, refl, ap, ◌∙◌, subst, inl, inr, ⊎_elim, arith}
-use Rattle.std.proofs.lemmas.Bool.{cases_eq, cond_both}
+use Rattle.std.proofs.Common.{◌≡◌, ℕ, zero, suc, ◌+◌, ◌-◌, ◌*◌, ◌<◌, cond, ltb, ◌⊎◌, List, [], ◌∷◌, length, get_or, set, sym, refl, ap, ◌∙◌, subst, inl, inr, ⊎_elim, arith}
+use Rattle.std.specs.List.{remove}
+use Rattle.std.proofs.lemmas.Bool.{cases_eq}
 use Rattle.std.proofs.lemmas.Bool.Decides.{nat_tests}
+use Rattle.std.proofs.lemmas.List.Edits.{get_or-remove_above, get_or-remove_below, length-remove}
+use Rattle.std.proofs.lemmas.List.{get_or-set_other, get_or-set_same, length-set}
 use Rattle.network.specs.Assignments.{node}
 use Rattle.network.specs.Lists.{In}
 use Rattle.network.specs.Clauses.{without, last}
 use Rattle.network.proofs.Lists.{in_left, in_right, in_cases}
-use Rattle.rules.specs.Store.{Meaning, changed, close_up, retired, shortened}
+use Rattle.rules.specs.Store.{Meaning, changed, retired, shortened}
 use Rattle.rules.specs.Held.{held, Placed}
 
 module _ {X : Type 0} where
@@ -20,46 +23,17 @@ module _ {X : Type 0} where
   at_in (y ∷ xs) x d (inl e) = (0, omega arith, sym e)
   at_in (y ∷ xs) x d (inr h) = let (i, l, e) = at_in xs x d h in (suc i, omega arith, e)
 
-  pub at_past : (xs : List X) (i : ℕ) (d : X) → length xs ≤ i → get_or xs i d ≡ d
-  at_past [] i d l = refl
-  at_past (x ∷ xs) zero d l = absurd (omega arith)
-  at_past (x ∷ xs) (suc i) d l = at_past xs i d (omega arith)
-
-  -- close_up
-  pub closed_in : (xs : List X) (i : ℕ) (x : X) → In x (close_up i xs) → In x xs
-  unfolding close_up
+  -- remove
+  pub closed_in : (xs : List X) (i : ℕ) (x : X) → In x (remove xs i) → In x xs
   closed_in [] zero x h = h
   closed_in [] (suc i) x h = h
   closed_in (y ∷ xs) zero x h = inr h
   closed_in (y ∷ xs) (suc i) x h = ⊎_elim inl (λ j. inr (closed_in xs i x j)) h
 
-  pub in_closed : (xs : List X) (i : ℕ) (x d : X) → In x xs → In x (close_up i xs) ⊎ (x ≡ get_or xs i d)
-  unfolding close_up
+  pub in_closed : (xs : List X) (i : ℕ) (x d : X) → In x xs → In x (remove xs i) ⊎ (x ≡ get_or xs i d)
   in_closed [] i x d h = absurd h
   in_closed (y ∷ xs) zero x d h = ⊎_elim inr inl h
   in_closed (y ∷ xs) (suc i) x d h = ⊎_elim (λ e. inl (inl e)) (λ j. ⊎_elim (λ k. inl (inr k)) inr (in_closed xs i x d j)) h
-
-  pub closed_length : (xs : List X) (i : ℕ) → i < length xs → suc (length (close_up i xs)) ≡ length xs
-  unfolding close_up
-  closed_length [] i l = absurd (omega arith)
-  closed_length (y ∷ xs) zero l = refl
-  closed_length (y ∷ xs) (suc i) l = ap suc (closed_length xs i (omega arith))
-
-  pub closed_below : (xs : List X) (i j : ℕ) (d : X) → j < i → get_or (close_up i xs) j d ≡ get_or xs j d
-  unfolding close_up
-  closed_below [] zero j d l = absurd (omega arith)
-  closed_below [] (suc i) j d l = refl
-  closed_below (y ∷ xs) zero j d l = absurd (omega arith)
-  closed_below (y ∷ xs) (suc i) zero d l = refl
-  closed_below (y ∷ xs) (suc i) (suc j) d l = closed_below xs i j d (omega arith)
-
-  pub closed_above : (xs : List X) (i j : ℕ) (d : X) → i ≤ j → get_or (close_up i xs) j d ≡ get_or xs (suc j) d
-  unfolding close_up
-  closed_above [] zero j d l = refl
-  closed_above [] (suc i) j d l = refl
-  closed_above (y ∷ xs) zero j d l = refl
-  closed_above (y ∷ xs) (suc i) zero d l = absurd (omega arith)
-  closed_above (y ∷ xs) (suc i) (suc j) d l = closed_above xs i j d (omega arith)
 
   -- set
   pub set_in : (xs : List X) (i : ℕ) (y x : X) → In x (set xs i y) → In x xs ⊎ (x ≡ y)
@@ -76,23 +50,6 @@ module _ {X : Type 0} where
   set_here [] i y l = absurd (omega arith)
   set_here (z ∷ xs) zero y l = inl refl
   set_here (z ∷ xs) (suc i) y l = inr (set_here xs i y (omega arith))
-
-  pub set_length : (xs : List X) (i : ℕ) (y : X) → length (set xs i y) ≡ length xs
-  set_length [] i y = refl
-  set_length (z ∷ xs) zero y = refl
-  set_length (z ∷ xs) (suc i) y = ap suc (set_length xs i y)
-
-  pub set_at : (xs : List X) (i : ℕ) (y d : X) → i < length xs → get_or (set xs i y) i d ≡ y
-  set_at [] i y d l = absurd (omega arith)
-  set_at (z ∷ xs) zero y d l = refl
-  set_at (z ∷ xs) (suc i) y d l = set_at xs i y d (omega arith)
-
-  pub set_other : (xs : List X) (i j : ℕ) (y d : X) → (j ≡ i → ⊥) → get_or (set xs i y) j d ≡ get_or xs j d
-  set_other [] i j y d a = refl
-  set_other (z ∷ xs) zero zero y d a = absurd (a refl)
-  set_other (z ∷ xs) zero (suc j) y d a = refl
-  set_other (z ∷ xs) (suc i) zero y d a = refl
-  set_other (z ∷ xs) (suc i) (suc j) y d a = set_other xs i j y d (λ e. a (ap suc e))
 
 pub changed_here : {X : Type 0} (f : ℕ → X) (l : ℕ) (x : X) → changed f l x l ≡ x
 unfolding changed
@@ -130,13 +87,13 @@ module _ (M N : Meaning) (l : ℕ) (apart : (k : ℕ) → (k ≡ l → ⊥) → 
 
 -- retiring and shortening a clause
 module _ (M : Meaning) (l i : ℕ) where
-  pub retired_own : (retired l i M).own l ≡ close_up i (M.own l)
+  pub retired_own : (retired l i M).own l ≡ remove (M.own l) i
   unfolding retired
-  retired_own = changed_here M.own l (close_up i (M.own l))
+  retired_own = changed_here M.own l (remove (M.own l) i)
 
   pub retired_apart : (k : ℕ) → (k ≡ l → ⊥) → (retired l i M).own k ≡ M.own k
   unfolding retired
-  retired_apart k a = changed_apart M.own l (close_up i (M.own l)) k a
+  retired_apart k a = changed_apart M.own l (remove (M.own l) i) k a
 
   pub retired_part : (k : ℕ) (E : List ℕ) → In E (held (retired l i M) k) → In E (held M k)
   retired_part k E h = ⊎_elim (λ j. j)
@@ -150,10 +107,7 @@ module _ (M : Meaning) (l i : ℕ) where
   -- the clause at another place of own l
   pub retired_at : (j : ℕ) → i < length (M.own l) → j < length (M.own l) → (j ≡ i → ⊥)
       → (cond (ltb i j) (j - 1) j < length ((retired l i M).own l)) × (get_or ((retired l i M).own l) (cond (ltb i j) (j - 1) j) [] ≡ get_or (M.own l) j [])
-  retired_at j li lj a = subst (λ xs. (cond (ltb i j) (j - 1) j < length xs) × (get_or xs (cond (ltb i j) (j - 1) j) [] ≡ get_or (M.own l) j [])) (sym retired_own)
-      (cond_both (ltb i j) (j - 1) j (λ p. (p < length (close_up i (M.own l))) × (get_or (close_up i (M.own l)) p [] ≡ get_or (M.own l) j []))
-      (λ e. (grind (arith, nat_tests, closed_length (M.own l) i li), closed_above (M.own l) i (j - 1) [] (grind (arith, nat_tests)) ∙ ap (λ p. get_or (M.own l) p []) (grind (arith, nat_tests))))
-      (λ e. (grind (arith, nat_tests, closed_length (M.own l) i li), closed_below (M.own l) i j [] (grind (arith, nat_tests)))))
+  retired_at j li lj a = grind (arith, nat_tests, retired_own, length-remove (M.own l) i li, get_or-remove_above (M.own l) i [] (j - 1), get_or-remove_below (M.own l) i [] j)
 
   module _ (x : ℕ) where
     pub shortened_own : (shortened l i x M).own l ≡ set (M.own l) i (without x (get_or (M.own l) i []))
@@ -178,16 +132,17 @@ module _ (M : Meaning) (l i : ℕ) where
     shortened_here h = held_in (shortened l i x M) l (without x (get_or (M.own l) i [])) (subst (In (without x (get_or (M.own l) i []))) (sym shortened_own) (set_here (M.own l) i (without x (get_or (M.own l) i [])) h))
 
     pub shortened_length : (k : ℕ) → length ((shortened l i x M).own k) ≡ length (M.own k)
-    shortened_length k = ⊎_elim (λ e. subst (λ g. length ((shortened l i x M).own g) ≡ length (M.own g)) (sym e) (ap length shortened_own ∙ set_length (M.own l) i (without x (get_or (M.own l) i []))))
-        (λ a. ap length (shortened_apart k a)) (cases_eq k l)
+    shortened_length k = grind (arith, nat_tests, shortened_own, length-set (M.own l) i (without x (get_or (M.own l) i [])), shortened_apart k, cases_eq k l)
 
     pub shortened_at : i < length (M.own l) → get_or ((shortened l i x M).own l) i [] ≡ without x (get_or (M.own l) i [])
-    shortened_at h = ap (λ xs. get_or xs i []) shortened_own ∙ set_at (M.own l) i (without x (get_or (M.own l) i [])) [] h
+    shortened_at h = ap (λ xs. get_or xs i []) shortened_own ∙ get_or-set_same (M.own l) i (without x (get_or (M.own l) i [])) [] h
 
     pub shortened_other : (k j : ℕ) → ((k ≡ l) → (j ≡ i) → ⊥) → get_or ((shortened l i x M).own k) j [] ≡ get_or (M.own k) j []
-    shortened_other k j a = ⊎_elim
-        (λ e. subst (λ g. get_or ((shortened l i x M).own g) j [] ≡ get_or (M.own g) j []) (sym e) (ap (λ xs. get_or xs j []) shortened_own ∙ set_other (M.own l) i j (without x (get_or (M.own l) i [])) [] (a e)))
-        (λ d. ap (λ xs. get_or xs j []) (shortened_apart k d)) (cases_eq k l)
+    shortened_other k j a = grind (arith, nat_tests, shortened_own, get_or-set_other (M.own l) i j (without x (get_or (M.own l) i [])) [], shortened_apart k, cases_eq k l)
+
+-- one list changed, with no clause that was not there
+pub part_at : (M N : Meaning) (l : ℕ) → ((k : ℕ) → (k ≡ l → ⊥) → N.own k ≡ M.own k) → ((E : List ℕ) → In E (N.own l) → In E (M.own l)) → (k : ℕ) (E : List ℕ) → In E (N.own k) → In E (M.own k)
+part_at M N l a f k E h = ⊎_elim (λ e. subst (λ g. In E (M.own g)) (sym e) (f E (subst (λ g. In E (N.own g)) e h))) (λ d. subst (In E) (a k d) h) (cases_eq k l)
 
 -- one list changed, and each clause is still in the list of its last literal
 pub placed_changed : (M N : Meaning) (l : ℕ) → ((k : ℕ) → (k ≡ l → ⊥) → N.own k ≡ M.own k) → ((E : List ℕ) → In E (N.own l) → last E ≡ l) → Placed M → Placed N

@@ -1,5 +1,5 @@
 -- The passes as they are where no entry is refused: each entry made without a test. Assumes nothing.
-use Rattle.std.proofs.Common.{ℕ, ◌+◌, ◌*◌, Bool, true, false, cond, List, [], ◌∷◌, Some, None, Option}
+use Rattle.std.proofs.Common.{◌≡◌, ℕ, ◌+◌, ◌*◌, Bool, true, false, cond, List, [], ◌∷◌, Some, None, Option, refl}
 use Rattle.network.specs.Lemmas.{lemmas}
 use Rattle.network.specs.Values.{simplified}
 use Rattle.rules.specs.Store.{entered, index_off}
@@ -40,3 +40,12 @@ attempted n Rs W = cond (given_up W n Rs) W (eliminated n Rs W)
 
 unfoldable pub attempt : ℕ → Work → Work
 attempt n W = cond (passed_over W n) W (attempted n (all_resolvents W.store n) W)
+
+-- an entry, by cases: a literal of the clause is true, or what is left of it comes in
+pub add_cases : (C : List ℕ) (W : Work) (P : Work → Type 0) → P W → ((S : List ℕ) → simplified W.values C ≡ Some S → P (add_simplified (Some S) W)) → P (add C W)
+unfolding add
+add_cases C W P p = go (simplified W.values C)
+  where
+    go : (o : Option (List ℕ)) → ((S : List ℕ) → o ≡ Some S → P (add_simplified (Some S) W)) → P (add_simplified o W)
+    go None h = p
+    go (Some S) h = h S refl

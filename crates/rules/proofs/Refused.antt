@@ -1,5 +1,5 @@
 -- What a refused call leaves. Assumes nothing.
-use Rattle.std.proofs.Common.{◌≡◌, ℕ, ◌/◌, Bool, true, false, cond, leb, ◌⊎◌, List, length, Ok, Err, Result, sym, refl, inl, inr, arith}
+use Rattle.std.proofs.Common.{◌≡◌, ℕ, ◌/◌, Bool, true, false, cond, leb, ◌⊎◌, List, length, Ok, Err, Result, sym, refl, inl, inr}
 use Rattle.std.proofs.lemmas.Bool.{cond_both}
 use Rattle.image.specs.Faults.{fault}
 use Rattle.image.specs.declared.fault.Fault.{Fault}
@@ -16,7 +16,7 @@ abbrev Leaves : {X : Type 0} → Work → Fault → Work × Result X Fault → T
 Leaves W f r = r.1 ≡ Err f → r.0 ≡ W
 
 not_refused : {X : Type 0} (x : X) (f : Fault) → ◌≡◌ {A = Result X Fault} (Ok x) (Err f) → ⊥
-not_refused x f e = let z : ◌≡◌ {A = ℕ} 0 1 = cc in omega arith
+not_refused x f e = cc
 
 lent_leaves : {X : Type 0} (n : ℕ) (W : Work) (f : Fault) (r : Work × Result X Fault) → Leaves W f r → Leaves W f (lent n W r)
 lent_leaves n W f r h = cond_both (leb (need W) n) r _ (Leaves W f) (λ e. h) (λ e q. refl)

@@ -1,5 +1,5 @@
 -- The cost of a node: it is no more than the live clauses, and taking the node out makes room for its resolvents. Assumes nothing.
-use Rattle.std.proofs.Common.{◌≡◌, ℕ, zero, suc, ◌+◌, ◌-◌, ◌*◌, ◌<◌, ◌≤◌, Bool, true, false, eqb, ltb, List, [], ◌∷◌, ◌++◌, length, get_or, replicate, Some, None, Option, refl, ap, ◌∙◌, inl, inr, ⊎_elim, arith}
+use Rattle.std.proofs.Common.{◌≡◌, ℕ, zero, suc, ◌+◌, ◌*◌, ◌<◌, ◌≤◌, Bool, true, false, eqb, ltb, List, [], ◌∷◌, length, Some, None, Option, refl, ap, ◌∙◌, inl, inr, ⊎_elim, arith}
 use Rattle.std.proofs.lemmas.Bool.{cond_both}
 use Rattle.network.specs.Assignments.{node, opposite}
 use Rattle.network.specs.Lists.{In}
@@ -7,18 +7,18 @@ use Rattle.network.specs.Clauses.{without}
 use Rattle.network.specs.Values.{nothing}
 use Rattle.network.specs.Subsumption.{fits}
 use Rattle.network.specs.Lemmas.{placed, by_length, Swept, keeping, once_more, met, swept, lemmas_from, lemmas}
-use Rattle.rules.specs.Store.{Meaning, live_clauses, kept_clauses, removed, swap_out}
+use Rattle.rules.specs.Store.{Meaning, live_clauses, kept_clauses, removed}
 use Rattle.rules.specs.Index.{Indexed}
 use Rattle.rules.specs.Lawful.{Lawful}
-use Rattle.rules.specs.Work.{Work, each, literals_of, cleared, clear, clear_all}
-use Rattle.rules.specs.Bve.{cost, use_marks, uses_cleared, taken_out}
+use Rattle.rules.specs.Work.{Work, clear}
+use Rattle.rules.specs.Bve.{cost, taken_out}
 use Rattle.rules.proofs.Places.{held_in}
 use Rattle.rules.proofs.Verdicts.{last_in}
 use Rattle.rules.proofs.TakenOut.{cost_zero, out_to}
 use Rattle.rules.proofs.Formed.{formed_parts, some_not_nil, without_shorter}
-use Rattle.rules.proofs.Lives.{removed_fewer, removed_part}
+use Rattle.rules.proofs.Along.{equal_chains, fewer_chains, clear_along, taken_out_along}
+use Rattle.rules.proofs.Lives.{removed_dead, removed_kept}
 use Rattle.rules.proofs.Counting.{Fine, taken_out_fewer}
-use Rattle.rules.proofs.Facts.{le_same, le_trans}
 
 -- ## Fewer lemmas than resolvents
 
@@ -36,14 +36,12 @@ from_length : (f : ℕ) (Cs : List (List ℕ)) → length (lemmas_from f Cs) ≤
 unfolding lemmas_from
 from_length zero Cs = omega arith
 from_length (suc f) [] = omega arith
-from_length (suc f) (C ∷ Cs) = let s = swept_length Cs C in
-    cond_both (swept Cs C).again (lemmas_from f ((swept Cs C).first ∷ (swept Cs C).rest)) ((swept Cs C).first ∷ lemmas_from f (swept Cs C).rest) (λ xs. length xs ≤ suc (length Cs))
-    (λ e. omega (arith, from_length f ((swept Cs C).first ∷ (swept Cs C).rest), s)) (λ e. omega (arith, from_length f (swept Cs C).rest, s))
+from_length (suc f) (C ∷ Cs) = grind (arith, swept_length Cs C, from_length f ((swept Cs C).first ∷ (swept Cs C).rest), from_length f (swept Cs C).rest)
 
 placed_length : (C : List ℕ) (Ds : List (List ℕ)) → length (placed C Ds) ≡ suc (length Ds)
 unfolding placed
 placed_length C [] = refl
-placed_length C (D ∷ Ds) = cond_both (ltb (length D) (length C)) (D ∷ placed C Ds) (C ∷ D ∷ Ds) (λ xs. length xs ≡ suc (suc (length Ds))) (λ e. ap suc (placed_length C Ds)) (λ e. refl)
+placed_length C (D ∷ Ds) = grind (arith, placed_length C Ds)
 
 sorted_length : (Cs : List (List ℕ)) → length (by_length Cs) ≡ length Cs
 unfolding by_length
@@ -118,92 +116,23 @@ module _ (v : ℕ) (W : Work) (L : Lawful W.store) (I : Indexed W.store) (bound 
 
   -- a clause removed for each that the node costs
   pub taken_out_less : live_clauses (taken_out v W).store + cost W.store v ≤ live_clauses W.store
-  taken_out_less = sums (live_clauses (taken_out v W).store) (cost W.store v) (live_clauses W.store) (cost (taken_out v W).store v) (taken_out_fewer v W F).1
-      (let N = (taken_out_fewer v W F).0 in cost_zero v (taken_out v W).store N.index N.placed N.filled (λ l C i. (out_to v W I F.placed F.filled bound (node l) C (held_in (taken_out v W).store l C i)).1))
-    where
-      sums : (a b c d : ℕ) → a + b ≤ c + d → d ≡ 0 → a + b ≤ c
-      sums a b c d p q = omega arith
+  taken_out_less = omega (arith, (taken_out_fewer v W F).1, let N = (taken_out_fewer v W F).0 in cost_zero v (taken_out v W).store N.index N.placed N.filled (λ l C i. (out_to v W I F.placed F.filled bound (node l) C (held_in (taken_out v W).store l C i)).1))
 
 -- a node costs no more than there are live clauses
 pub cost_live : (M : Meaning) → Lawful M → Indexed M → (v : ℕ) → cost M v ≤ live_clauses M
-cost_live M L I v = sums (live_clauses (taken_out v all).store) (cost M v) (live_clauses M) (taken_out_less v all L I (λ l E i. omega (arith, (formed_parts E (L.formed l E i)).small, L.placed l E i)))
+cost_live M L I v = omega (arith, taken_out_less v all L I (λ l E i. omega (arith, (formed_parts E (L.formed l E i)).small, L.placed l E i)))
   where
     all : Work
     all = record { top = 1023; frozen = λ _. false; store = M; values = nothing; out = [] }
 
-    sums : (a b c : ℕ) → a + b ≤ c → b ≤ c
-    sums a b c p = omega arith
-
 -- ## Clearing
 
-abbrev pub Unmourned : Meaning → Meaning → Type 0
-Unmourned M N = N.dead_clauses ≡ M.dead_clauses
-
-cleared_dead : (f l i : ℕ) (marks : List Bool) (M : Meaning) → Unmourned M (cleared f l i marks M)
-unfolding cleared removed
-cleared_dead zero l i marks M = refl
-cleared_dead (suc f) l i marks M = cond_both (ltb i (length (M.own l))) _ M (Unmourned M)
-    (λ e. cond_both (get_or marks i false) (cleared f l i (swap_out false i marks) (removed l i M)) (cleared f l (suc i) marks M) (Unmourned M)
-    (λ t. cleared_dead f l i (swap_out false i marks) (removed l i M)) (λ t. cleared_dead f l (suc i) marks M))
-    (λ e. refl)
-
-cleared_fewer : (f l i : ℕ) (marks : List Bool) (M : Meaning) → live_clauses (cleared f l i marks M) ≤ live_clauses M
-unfolding cleared
-cleared_fewer zero l i marks M = le_same (live_clauses M)
-cleared_fewer (suc f) l i marks M = cond_both (ltb i (length (M.own l))) _ M (λ N. live_clauses N ≤ live_clauses M)
-    (λ e. cond_both (get_or marks i false) (cleared f l i (swap_out false i marks) (removed l i M)) (cleared f l (suc i) marks M) (λ N. live_clauses N ≤ live_clauses M)
-    (λ t. le_trans (live_clauses (cleared f l i (swap_out false i marks) (removed l i M))) (live_clauses (removed l i M)) (live_clauses M) (cleared_fewer f l i (swap_out false i marks) (removed l i M)) (removed_fewer M l i)) (λ t. cleared_fewer f l (suc i) marks M))
-    (λ e. le_same (live_clauses M))
-
-cleared_part : (f l i : ℕ) (marks : List Bool) (M : Meaning) (k : ℕ) (E : List ℕ) → In E ((cleared f l i marks M).own k) → In E (M.own k)
-unfolding cleared
-cleared_part zero l i marks M k E h = h
-cleared_part (suc f) l i marks M k E h = cond_both (ltb i (length (M.own l))) _ M (λ N. In E (N.own k) → In E (M.own k))
-    (λ e. cond_both (get_or marks i false) (cleared f l i (swap_out false i marks) (removed l i M)) (cleared f l (suc i) marks M) (λ N. In E (N.own k) → In E (M.own k))
-    (λ t j. removed_part M l i k E (cleared_part f l i (swap_out false i marks) (removed l i M) k E j)) (λ t j. cleared_part f l (suc i) marks M k E j))
-    (λ e j. j) h
-
-pub clear_part : (l : ℕ) (marks : List Bool) (M : Meaning) (k : ℕ) (E : List ℕ) → In E ((clear l marks M).own k) → In E (M.own k)
-unfolding clear
-clear_part l marks M k E h = cleared_part (length (M.own l)) l 0 _ M k E h
-
-cleared_room : (f l i : ℕ) (marks : List Bool) (M : Meaning) → (cleared f l i marks M).room ≡ M.room
-unfolding cleared removed
-cleared_room zero l i marks M = refl
-cleared_room (suc f) l i marks M = cond_both (ltb i (length (M.own l))) _ M (λ N. N.room ≡ M.room)
-    (λ e. cond_both (get_or marks i false) (cleared f l i (swap_out false i marks) (removed l i M)) (cleared f l (suc i) marks M) (λ N. N.room ≡ M.room)
-    (λ t. cleared_room f l i (swap_out false i marks) (removed l i M)) (λ t. cleared_room f l (suc i) marks M))
-    (λ e. refl)
-
 pub clear_room : (l : ℕ) (marks : List Bool) (M : Meaning) → (clear l marks M).room ≡ M.room
-unfolding clear
-clear_room l marks M = cleared_room (length (M.own l)) l 0 _ M
+unfolding removed
+clear_room = clear_along (λ M N. N.room ≡ M.room) (equal_chains (λ M. M.room)) (λ l i M h. refl)
 
 pub clear_kept : (l : ℕ) (marks : List Bool) (M : Meaning) → kept_clauses (clear l marks M) ≤ kept_clauses M
-unfolding clear
-clear_kept l marks M = sums (live_clauses N) (live_clauses M) N.dead_clauses M.dead_clauses (cleared_fewer (length (M.own l)) l 0 marks' M) (cleared_dead (length (M.own l)) l 0 marks' M)
-  where
-    marks' : List Bool
-    marks' = marks ++ replicate (length (M.own l) - length marks) false
+clear_kept = clear_along (λ M N. kept_clauses N ≤ kept_clauses M) (fewer_chains kept_clauses) (λ l i M h. removed_kept M l i)
 
-    N : Meaning
-    N = cleared (length (M.own l)) l 0 (marks ++ replicate (length (M.own l) - length marks) false) M
-
-    sums : (a b c d : ℕ) → a ≤ b → c ≡ d → a + c ≤ b + d
-    sums a b c d p q = omega arith
-
-pub clear_dead : (l : ℕ) (marks : List Bool) (M : Meaning) → Unmourned M (clear l marks M)
-unfolding clear
-clear_dead l marks M = cleared_dead (length (M.own l)) l 0 _ M
-
-clear_all_dead : (l : ℕ) (M : Meaning) → Unmourned M (clear_all l M)
-unfolding clear_all
-clear_all_dead l M = clear_dead l _ M
-
-sweep_dead : (n : ℕ) (ls : List ℕ) (M : Meaning) → Unmourned M (each (λ l M. clear l (use_marks M n l) M) ls M)
-sweep_dead n [] M = refl
-sweep_dead n (l ∷ ls) M = sweep_dead n ls (clear l (use_marks M n l) M) ∙ clear_dead l (use_marks M n l) M
-
-pub taken_out_dead : (n : ℕ) (W : Work) → Unmourned W.store (taken_out n W).store
-unfolding taken_out
-taken_out_dead n W = clear_all_dead (2 * n + 1) (clear_all (2 * n) (uses_cleared n W)) ∙ clear_all_dead (2 * n) (uses_cleared n W) ∙ sweep_dead n (literals_of W) W.store
+pub taken_out_dead : (n : ℕ) (W : Work) → (taken_out n W).store.dead_clauses ≡ W.store.dead_clauses
+taken_out_dead = taken_out_along (λ M N. N.dead_clauses ≡ M.dead_clauses) (equal_chains (λ M. M.dead_clauses)) (λ l i M h. removed_dead M l i)

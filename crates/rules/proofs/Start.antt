@@ -1,18 +1,19 @@
 -- A work that start makes keeps the network taken in, and none of its entries is refused. Assumes nothing.
-use Rattle.std.proofs.Common.{◌≡◌, ℕ, zero, suc, ◌+◌, ◌/◌, ◌<◌, ◌≤◌, Bool, true, false, eqb, leb, ◌⊎◌, List, [], ◌∷◌, ◌++◌, map, length, get_or, Some, None, Ok, Err, filter, Option, Result, sym, refl, ap, ◌∙◌, subst, inl, inr, ⊎_elim, arith}
+use Rattle.std.proofs.Common.{◌≡◌, ℕ, zero, suc, ◌+◌, ◌/◌, ◌<◌, ◌≤◌, Bool, true, false, eqb, leb, ◌⊎◌, List, [], ◌∷◌, ◌++◌, map, length, get_or, Some, None, Ok, Err, filter, Option, Result, sym, refl, ap, ◌∙◌, subst, inl, inr, ⊎_elim, arith, flat_map}
 use Rattle.std.proofs.lemmas.Bool.{cases_eq, both_ways, eqb-true, eq-eqb, leb-true}
+use Rattle.std.proofs.lemmas.List.Concat.{flat_map-append}
+use Rattle.std.proofs.lemmas.List.{length-append, length-map}
 use Rattle.network.specs.Assignments.{node}
-use Rattle.network.specs.Lists.{In, gather}
+use Rattle.network.specs.Lists.{In}
 use Rattle.network.specs.Networks.{Network, level, Gates}
 use Rattle.network.specs.Clauses.{Ordered, Subsumes, owner, has}
 use Rattle.network.specs.Values.{Values, nothing, with_value, sign, unit_of, literal, simplified}
-use Rattle.network.proofs.Lists.{in_left, in_right, in_cases, in_kept, kept_in, map_in, in_gather, gather_in}
+use Rattle.network.proofs.Lists.{in_left, in_right, in_cases, in_kept, kept_in, map_in, in_flat_map, flat_map_in}
 use Rattle.network.proofs.Levels.{below_agree}
 use Rattle.network.proofs.Networks.{locals, clause_at}
 use Rattle.network.proofs.Ordered.{owned_within}
 use Rattle.network.proofs.Rows.{Distinct, pigeons}
-use Rattle.image.specs.Headers.{top, run}
-use Rattle.image.specs.Runs.{clauses}
+use Rattle.image.specs.Headers.{top}
 use Rattle.image.specs.Faults.{fault, tested}
 use Rattle.image.specs.declared.fault.Fault.{Fault}
 use Rattle.intake.specs.Answers.{accepts, loose_nodes, first_of}
@@ -35,8 +36,7 @@ use Rattle.rules.proofs.Simplified.{says_at, simplified_some, simplified_none, u
 use Rattle.rules.proofs.Enter.{Plus, enter_kept}
 use Rattle.rules.proofs.Drops.{swap_kept}
 use Rattle.rules.proofs.Adds.{entered_plus, adds_top, adds_placed, adds_zero}
-use Rattle.rules.proofs.Index.{in_up_to, append_length}
-use Rattle.rules.proofs.HowMany.{map_length}
+use Rattle.rules.proofs.Index.{in_up_to}
 use Rattle.rules.proofs.Passes.{adds_keep}
 use Rattle.rules.proofs.Lawful.{emptied_lawful, emptied_none}
 use Rattle.rules.proofs.Accepted.{adds_short, adds_accepted, adds_live}
@@ -69,7 +69,7 @@ distinct_nodes [] o = tt
 distinct_nodes (x ∷ C) (lo, o) = ((λ i. let (y, j, e) = map_in node (node x) C i in omega (arith, lo y j, e)), distinct_nodes C o)
 
 narrow_short : (C xs : List ℕ) → Ordered C → ((l : ℕ) → In l C → In (node l) xs) → length C ≤ length xs
-narrow_short C xs o h = omega (arith, map_length node C, pigeons (map node C) xs (distinct_nodes C o) (λ k i. let (l, j, e) = map_in node k C i in subst (λ n. In n xs) (sym e) (h l j)))
+narrow_short C xs o h = omega (arith, length-map C node, pigeons (map node C) xs (distinct_nodes C o) (λ k i. let (l, j, e) = map_in node k C i in subst (λ n. In n xs) (sym e) (h l j)))
 
 module _ (ws : List ℕ) (I : Image ws) (fs : List Bool) (z : get_or fs 0 false ≡ true) (G : Gates (taken_in ws) (suc (top ws)) (λ n. get_or fs n false)) where
   abbrev first : Network
@@ -84,11 +84,11 @@ module _ (ws : List ℕ) (I : Image ws) (fs : List Bool) (z : get_or fs 0 false 
 
   in_clauses : (k : ℕ) (C : List ℕ) → In C (first k) → In C (clauses_in ws)
   unfolding clauses_in
-  in_clauses k C i = in_gather (taken_in ws) (up_to (suc (top ws))) k C (in_up_to (suc (top ws)) k (G.placed.small k C i)) i
+  in_clauses k C i = in_flat_map (taken_in ws) (up_to (suc (top ws))) k C (in_up_to (suc (top ws)) k (G.placed.small k C i)) i
 
   clauses_at : (C : List ℕ) → In C (clauses_in ws) → (k : ℕ) × In C (first k)
   unfolding clauses_in
-  clauses_at C i = let (k, a, b) = gather_in (taken_in ws) (up_to (suc (top ws))) C i in (k, b)
+  clauses_at C i = let (k, a, b) = flat_map_in (taken_in ws) (up_to (suc (top ws))) C i in (k, b)
 
   to_list : (k : ℕ) (C : List ℕ) → In C (first k) → In C (by_owner (clauses_in ws) k)
   to_list k C i = in_owner (clauses_in ws) C k (in_clauses k C i) (G.placed.owned k C i)
@@ -224,8 +224,8 @@ module _ (ws : List ℕ) (I : Image ws) (fs : List Bool) (z : get_or fs 0 false 
         (λ k E h. inl (⊎_elim (λ j. j) (λ j. absurd (nil_rest k E j)) (mix_in (held W.store) (by_owner []) k E h)))
 
     zero_known : (each add (clauses_in ws) (begun ws fs M)).values 0 ≡ Some false
-    unfolding clauses_in gather add simplified literal with_value
-    zero_known = adds_zero (gather (taken_in ws) (from 1 (top ws))) (add (1 ∷ []) (begun ws fs M)) refl
+    unfolding clauses_in add simplified literal with_value
+    zero_known = adds_zero (flat_map (taken_in ws) (from 1 (top ws))) (add (1 ∷ []) (begun ws fs M)) refl
 
     plain_good : Good first (each add (clauses_in ws) (begun ws fs M))
     plain_good =
@@ -245,26 +245,13 @@ module _ (ws : List ℕ) (I : Image ws) (fs : List Bool) (z : get_or fs 0 false 
     from_more zero i = ap (λ k. k ∷ []) (omega arith)
     from_more (suc t) i = ap (λ ks. i ∷ ks) (from_more t (suc i) ∙ ap (λ k. from (suc i) t ++ (k ∷ [])) (omega arith))
 
-    gather_length : (f : ℕ → List (List ℕ)) (xs ys : List ℕ) → length (gather f (xs ++ ys)) ≡ length (gather f xs) + length (gather f ys)
-    unfolding gather
-    gather_length f [] ys = omega arith
-    gather_length f (x ∷ xs) ys = omega (arith, append_length (f x) (gather f (xs ++ ys)), append_length (f x) (gather f xs), gather_length f xs ys)
-
-    total_is : (k : ℕ) → length (gather (taken_in ws) (from 1 k)) ≡ total ws k
-    unfolding gather
+    total_is : (k : ℕ) → length (flat_map (taken_in ws) (from 1 k)) ≡ total ws k
     total_is zero = refl
-    total_is (suc k) = ap (λ xs. length (gather (taken_in ws) xs)) (from_more k 1) ∙ gather_length (taken_in ws) (from 1 k) ((1 + k) ∷ [])
-        ∙ one (length (gather (taken_in ws) (from 1 k))) (total ws k) (length (taken_in ws (1 + k) ++ [])) (length (clauses (run ws (suc k)))) (total_is k)
-        (append_length (taken_in ws (1 + k)) [] ∙ zero_more (length (taken_in ws (1 + k))) ∙ ap (λ j. length (taken_in ws j)) {x = 1 + k} {y = suc k} (omega arith))
-      where
-        one : (a b c d : ℕ) → a ≡ b → c ≡ d → a + c ≡ b + d
-        one a b c d p q = omega arith
-
-        zero_more : (a : ℕ) → a + length {A = List ℕ} [] ≡ a
-        zero_more a = omega arith
+    total_is (suc k) = ap (λ xs. length (flat_map (taken_in ws) xs)) (from_more k 1) ∙ ap length (flat_map-append (taken_in ws) (from 1 k) ((1 + k) ∷ [])) ∙ length-append (flat_map (taken_in ws) (from 1 k)) (flat_map (taken_in ws) ((1 + k) ∷ []))
+        ∙ (omega (arith, total_is k, length-append (taken_in ws (1 + k)) [] ∙ (omega arith) ∙ ap (λ j. length (taken_in ws j)) {x = 1 + k} {y = suc k} (omega arith)))
 
     entered_count : length (clauses_in ws) ≡ suc (total ws (top ws))
-    unfolding clauses_in gather
+    unfolding clauses_in
     entered_count = ap suc (total_is (top ws))
 
     module _ (enough : suc (total ws (top ws)) ≤ M.room / 2) where
@@ -274,10 +261,7 @@ module _ (ws : List ℕ) (I : Image ws) (fs : List Bool) (z : get_or fs 0 false 
       accepted : (each tested_work.add (clauses_in ws) (begun ws fs M) ≡ each add (clauses_in ws) (begun ws fs M)) × AllAccepted (entries (clauses_in ws) (begun ws fs M))
       accepted = adds_accepted (clauses_in ws) (begun ws fs M)
           (good_formed first (each add (clauses_in ws) (begun ws fs M)) plain_good (adds_short (clauses_in ws) (begun ws fs M) (λ C i. let (k, j) = clauses_at C i in clause_short k C j) (λ l C i. absurd i)))
-          (room (kept_clauses (begun ws fs M).store) (length (clauses_in ws)) (total ws (top ws)) M.room none_live entered_count enough)
-        where
-          room : (a b c r : ℕ) → a ≡ 0 → b ≡ suc c → suc c ≤ r / 2 → a + b ≤ r
-          room a b c r p q s = omega arith
+          (omega (arith, none_live, entered_count, enough))
 
       pub start_good : Good first (started ws fs M)
       unfolding started
@@ -293,13 +277,7 @@ module _ (ws : List ℕ) (I : Image ws) (fs : List Bool) (z : get_or fs 0 false 
       pub start_live : live_clauses (started ws fs M).store ≤ M.room / 2
       unfolding started
       start_live = subst (λ W. live_clauses W.store ≤ M.room / 2) (sym accepted.0)
-          (room (live_clauses (each add (clauses_in ws) (begun ws fs M)).store) (live_clauses (begun ws fs M).store) (length (clauses_in ws)) (total ws (top ws)) (M.room / 2) (adds_live (clauses_in ws) (begun ws fs M)) (part (live_clauses (begun ws fs M).store) none_live) entered_count enough)
-        where
-          part : (a : ℕ) → a + 0 ≡ 0 → a ≡ 0
-          part a e = omega arith
-
-          room : (d a b c h : ℕ) → d ≤ a + b → a ≡ 0 → b ≡ suc c → suc c ≤ h → d ≤ h
-          room d a b c h p q s t = omega arith
+          (omega (arith, adds_live (clauses_in ws) (begun ws fs M), none_live, entered_count, enough))
 
       pub start_nodes : ((started ws fs M).top ≡ top ws) × ((started ws fs M).frozen ≡ (λ n. get_or fs n false))
       unfolding started
@@ -309,13 +287,13 @@ module _ (ws : List ℕ) (I : Image ws) (fs : List Bool) (z : get_or fs 0 false 
 
 first_none : (xs : List ℕ) → first_of xs ≡ None → xs ≡ []
 first_none [] e = refl
-first_none (x ∷ xs) e = let q : ◌≡◌ {A = ℕ} 0 1 = cc in absurd (omega arith)
+first_none (x ∷ xs) e = cc
 
 ok_same : (V W : Work) → ◌≡◌ {A = Result Work Fault} (Ok V) (Ok W) → V ≡ W
 ok_same V W e = cc
 
 ok_not : (f : Fault) (W : Work) → ◌≡◌ {A = Result Work Fault} (Err f) (Ok W) → ⊥
-ok_not f W e = let q : ◌≡◌ {A = ℕ} 0 1 = cc in omega arith
+ok_not f W e = cc
 
 -- what a work that start makes comes of
 pub record Started (ws : List ℕ) (fs : List Bool) (M : Meaning) (W : Work) : Type 0 where
@@ -343,12 +321,11 @@ each_append : (xs ys : List (List ℕ)) (W : Work) → each tested_work.add (xs 
 each_append [] ys W = refl
 each_append (x ∷ xs) ys W = each_append xs ys (tested_work.add x W)
 
-each_gather : (f : ℕ → List (List ℕ)) (ns : List ℕ) (W : Work) → each tested_work.add (gather f ns) W ≡ each (λ n W. each tested_work.add (f n) W) ns W
-unfolding gather
-each_gather f [] W = refl
-each_gather f (n ∷ ns) W = each_append (f n) (gather f ns) W ∙ each_gather f ns (each tested_work.add (f n) W)
+each_flat_map : (f : ℕ → List (List ℕ)) (ns : List ℕ) (W : Work) → each tested_work.add (flat_map f ns) W ≡ each (λ n W. each tested_work.add (f n) W) ns W
+each_flat_map f [] W = refl
+each_flat_map f (n ∷ ns) W = each_append (f n) (flat_map f ns) W ∙ each_flat_map f ns (each tested_work.add (f n) W)
 
 -- start enters the clauses of each node in turn
 pub started_by_nodes : (ws : List ℕ) (fs : List Bool) (M : Meaning) → started ws fs M ≡ each (λ n W. each tested_work.add (taken_in ws n) W) (up_to (suc (top ws))) (begun ws fs M)
 unfolding started clauses_in
-started_by_nodes ws fs M = each_gather (taken_in ws) (up_to (suc (top ws))) (begun ws fs M)
+started_by_nodes ws fs M = each_flat_map (taken_in ws) (up_to (suc (top ws))) (begun ws fs M)

@@ -1,8 +1,9 @@
 -- subsume_simplify keeps what is kept. Assumes nothing.
-use Rattle.std.proofs.Common.{◌≡◌, ℕ, zero, suc, ◌+◌, ◌-◌, ◌<◌, ◌≤◌, true, cond, not, ◌&&◌, eqb, ltb, List, [], ◌∷◌, map, length, get_or, sym, refl, ap, ◌∙◌, subst, inl, inr, ⊎_elim, arith}
+use Rattle.std.proofs.Common.{◌≡◌, ℕ, zero, suc, ◌+◌, ◌-◌, ◌<◌, ◌≤◌, true, cond, not, ◌&&◌, eqb, ltb, List, [], ◌∷◌, map, length, get_or, sym, refl, ap, ◌∙◌, subst, ◌⊎◌, inl, inr, ⊎_elim, arith}
+use Rattle.std.proofs.lemmas.List.{get_or_past}
 use Rattle.std.proofs.lemmas.Bool.{cases_eq, cases_lt, cond_both, ltb-true}
 use Rattle.std.proofs.lemmas.Bool.Decides.{nat_tests}
-use Rattle.network.specs.Assignments.{Assignment, node, opposite, holds}
+use Rattle.network.specs.Assignments.{Assignment, node, opposite}
 use Rattle.network.specs.Lists.{In}
 use Rattle.network.specs.Networks.{Network}
 use Rattle.network.specs.Clauses.{Ordered, without, Subsumes, owner, last}
@@ -23,10 +24,12 @@ use Rattle.rules.specs.Turns.{Check, checks_from, walk_checks, all_checks, subsu
 use Rattle.network.proofs.Lists.{in_cases}
 use Rattle.rules.proofs.Kept.{well}
 use Rattle.rules.proofs.Verdicts.{Judged, verdict_is, owner_in, equal_rest, owner_without, free_without, owner_of, last_without}
-use Rattle.rules.proofs.Drops.{not_nil, swap_kept, pair_kept}
+use Rattle.rules.proofs.Drops.{not_nil, PartAt, swap_kept, pair_kept}
+use Rattle.rules.proofs.Enter.{Implied}
 use Rattle.rules.proofs.Answers.{retire_yes, shorten_yes, droppable_yes}
 use Rattle.rules.specs.Subsume as work
 use Rattle.rules.specs.Work.{Work, literals_of}
+use Rattle.rules.proofs.Along.{stays_chains, each_along}
 use Rattle.rules.proofs.Places as places
 
 after_same : (k j l i : ℕ) → k ≡ l → place_after k j l i ≡ cond (ltb j i) (i - 1) i
@@ -57,6 +60,23 @@ module _ (first : Network) (n : ℕ) (V : Values) (gone frozen : Assignment) whe
   abbrev pub Both : Meaning → Type 0
   Both M = KeptIn M × Placed M
 
+  -- a clause loses a literal, not of its owner, where what is left follows
+  loses : (M : Meaning) → KeptIn M → (k j z : ℕ) → j < length (M.own k) → Implied (held M) (without z (get_or (M.own k) j [])) → (node z ≡ owner (get_or (M.own k) j []) → ⊥) → KeptIn (shortened k j z M)
+  loses M K k j z lj im a = lose (get_or (M.own k) j []) (places.in_at (M.own k) j [] lj) im a (places.shortened_new M k j z) (places.shortened_old M k j z) (places.shortened_here M k j z lj)
+    where
+      lose : (D : List ℕ) → In D (M.own k) → Implied (held M) (without z D) → (node z ≡ owner D → ⊥)
+          → ((h : ℕ) (E : List ℕ) → In E (held (shortened k j z M) h) → In E (held M h) ⊎ ((node k ≡ h) × (E ≡ without z D)))
+          → ((h : ℕ) (E : List ℕ) → In E (held M h) → In E (held (shortened k j z M) h) ⊎ ((node k ≡ h) × (E ≡ D)))
+          → In (without z D) (held (shortened k j z M) (node k)) → KeptIn (shortened k j z M)
+      lose D i im a new old here =
+          let d = places.held_in M k D i in
+          let o = K.clauses.order (node k) D d in
+          let q : owner (without z D) ≡ node k = owner_without z D o (not_nil first (held M) n V gone frozen K (node k) D d) a ∙ K.clauses.owned (node k) D d in
+          let p : PartAt (held M) (node k) (without z D) = record { whole = D; at = d; part = λ y h. (without_in z y D h).0; order = ordered_kept (λ w. not (eqb w z)) D o; owned = q; implied = im } in
+          swap_kept first (held M) n V gone frozen K (held (shortened k j z M))
+          (λ h E m. ⊎_elim inl (λ (w, e). inr (subst (λ g. PartAt (held M) g E) w (subst (PartAt (held M) (node k)) (sym e) p))) (new h E m))
+          (λ h E m. ⊎_elim inl (λ (w, e). inr (without z D, subst (λ g. In (without z D) (held (shortened k j z M) g)) (sym q) here, λ y i. subst (In y) (sym e) (p.part y i))) (old h E m))
+
   module _ (M : Meaning) (K : KeptIn M) (l i k j : ℕ) (li : i < length (M.own l)) (apart' : (k ≡ l) → (j ≡ i) → ⊥) where
     C : List ℕ
     C = get_or (M.own l) i []
@@ -79,7 +99,7 @@ module _ (first : Network) (n : ℕ) (V : Values) (gone frozen : Assignment) whe
 
     some_D : (z : ℕ) → In z D → j < length (M.own k)
     unfolding D
-    some_D z h = ⊎_elim (λ m. m) (λ m. absurd (subst (In z) (places.at_past (M.own k) j [] m) h)) (cases_lt j (length (M.own k)))
+    some_D z h = ⊎_elim (λ m. m) (λ m. absurd (subst (In z) (get_or_past (M.own k) j [] m) h)) (cases_lt j (length (M.own k)))
 
     in_d : j < length (M.own k) → In D (held M (node k))
     unfolding D
@@ -110,64 +130,24 @@ module _ (first : Network) (n : ℕ) (V : Values) (gone frozen : Assignment) whe
         lj : j < length (M.own k)
         lj = let (y, h, e) = owner_in C C_not_nil in some_D y (s y h)
 
+    -- what is left of D where C takes a literal out of it
+    rest_follows : (x : ℕ) → Strengthens x C D → Implied (held M) (without (opposite x) D)
+    rest_follows x b = (
+      suc (node l + node k),
+      λ σ s. strengthened σ x C D b (clause_at (held M) (suc (node l + node k)) (node l) C σ s (omega arith) in_c)
+          (clause_at (held M) (suc (node l + node k)) (node k) D σ s (omega arith) (in_d (some_D (opposite x) b.there))),
+    )
+
     strengthened_kept : (x z : ℕ) → z ≡ opposite x → Strengthens x C D → (node x ≡ owner D → ⊥) → KeptIn (shortened k j z M)
     unfolding D
-    strengthened_kept x z ez b a = swap_kept first (held M) n V gone frozen K (held (shortened k j z M))
-        (λ h E m. ⊎_elim inl (λ (q, e). inr (
-          D,
-          subst (λ g. In D (held M g)) q (in_d lj),
-          (λ y i. subD y (subst (In y) e i)),
-          subst Ordered (sym e) oD',
-          ap owner e ∙ ownD' ∙ own_d lj ∙ q,
-          (
-            suc (node l + node k),
-            λ σ s. ap (holds σ) e ∙ subst (λ w. holds σ (without w D) ≡ true) (sym ez)
-                (strengthened σ x C D b (clause_at (held M) (suc (node l + node k)) (node l) C σ s (omega arith) in_c) (clause_at (held M) (suc (node l + node k)) (node k) D σ s (omega arith) (in_d lj))),
-          ),
-        )) (places.shortened_new M k j z h E m))
-        (λ h E m. ⊎_elim inl (λ (q, e). inr (without z D, subst (λ g. In (without z D) (held (shortened k j z M) g)) (sym (ownD' ∙ own_d lj)) (places.shortened_here M k j z lj), λ y i. subst (In y) (sym e) (subD y i))) (places.shortened_old M k j z h E m))
-      where
-        lj : j < length (M.own k)
-        lj = some_D (opposite x) b.there
-
-        subD : (y : ℕ) → In y (without z D) → In y D
-        subD y h = (without_in z y D h).0
-
-        oD' : Ordered (without z D)
-        oD' = ordered_kept (λ w. not (eqb w z)) D (oD lj)
-
-        ownD' : owner (without z D) ≡ owner D
-        ownD' = owner_without z D (oD lj) (not_nil first (held M) n V gone frozen K (node k) D (in_d lj)) (λ q. a (sym (node_neg x) ∙ ap node (sym ez) ∙ q))
+    strengthened_kept x z ez b a = loses M K k j z (some_D (opposite x) b.there) (subst (λ w. Implied (held M) (without w D)) (sym ez) (rest_follows x b)) (λ q. a (sym (node_neg x) ∙ ap node (sym ez) ∙ q))
 
     -- C loses x
     merged_first : (x : ℕ) → Strengthens x C D → length C ≡ length D → (node x ≡ owner C → ⊥) → KeptIn (shortened l i x M)
     unfolding C
-    merged_first x b e a = swap_kept first (held M) n V gone frozen K (held (shortened l i x M))
-        (λ h E m. ⊎_elim inl (λ (q, r). inr (
-          C,
-          subst (λ g. In C (held M g)) q in_c,
-          (λ y h. sub_c y (subst (In y) r h)),
-          subst Ordered (sym r) oC',
-          ap owner r ∙ ownC' ∙ ownC ∙ q,
-          (
-            suc (node l + node k),
-            λ σ s. ap (holds σ) r ∙ holds_more σ (without (opposite x) D) (without x C) (equal_rest x C D oC (oD lj) b e)
-                (strengthened σ x C D b (clause_at (held M) (suc (node l + node k)) (node l) C σ s (omega arith) in_c) (clause_at (held M) (suc (node l + node k)) (node k) D σ s (omega arith) (in_d lj))),
-          ),
-        )) (places.shortened_new M l i x h E m))
-        (λ h E m. ⊎_elim inl (λ (q, r). inr (without x C, subst (λ g. In (without x C) (held (shortened l i x M) g)) (sym (ownC' ∙ ownC)) (places.shortened_here M l i x li), λ y h. subst (In y) (sym r) (sub_c y h))) (places.shortened_old M l i x h E m))
-      where
-        lj : j < length (M.own k)
-        lj = some_D (opposite x) b.there
-
-        sub_c : (y : ℕ) → In y (without x C) → In y C
-        sub_c y h = (without_in x y C h).0
-
-        oC' : Ordered (without x C)
-        oC' = ordered_kept (λ w. not (eqb w x)) C oC
-
-        ownC' : owner (without x C) ≡ owner C
-        ownC' = owner_without x C oC C_not_nil a
+    merged_first x b e a =
+        let (m, f) = rest_follows x b in
+        loses M K l i x li (m, λ σ s. holds_more σ (without (opposite x) D) (without x C) (equal_rest x C D oC (oD (some_D (opposite x) b.there)) b e) (f σ s)) a
 
     both_kept : (x : ℕ) → Strengthens x C D → length C ≡ length D → node x ≡ owner C → KeptIn (retired l (place_after k j l i) (retired k j M))
     unfolding C D
@@ -293,7 +273,7 @@ module _ (first : Network) (n : ℕ) (V : Values) (gone frozen : Assignment) whe
     -- D past the end of its list is empty, and apart
     judged_here : Judged C D (verdict C D)
     unfolding D
-    judged_here = ⊎_elim (λ m. verdict_is C D oC (oD m)) (λ m. verdict_is C D oC (subst Ordered (sym (places.at_past (M.own k) j [] m)) tt)) (cases_lt j (length (M.own k)))
+    judged_here = ⊎_elim (λ m. verdict_is C D oC (oD m)) (λ m. verdict_is C D oC (subst Ordered (sym (get_or_past (M.own k) j [] m)) tt)) (cases_lt j (length (M.own k)))
 
   checked_kept : (f l i : ℕ) (Rs : List Ref) (M : Meaning) → Both M → i < length (M.own l) → Both (checked_from f l i Rs M).0
   unfolding checked_from C D
@@ -340,8 +320,7 @@ module _ (first : Network) (n : ℕ) (V : Values) (gone frozen : Assignment) whe
       (λ e c h. absurd h)
 
   walks_kept : (ls : List ℕ) (M : Meaning) → Both M → Both (each walk ls M)
-  walks_kept [] M K = K
-  walks_kept (l ∷ ls) M K = walks_kept ls (walk l M) (walked_kept (length (M.own l)) l 0 M K)
+  walks_kept = each_along (λ M N. Both M → Both N) (stays_chains Both) walk (λ l M. walked_kept (length (M.own l)) l 0 M)
 
   walks_granted : (ls : List ℕ) (M : Meaning) → Both M → AllGranted (all_checks ls M)
   unfolding all_checks

@@ -1,20 +1,23 @@
 -- The clauses that name a node are cleared. Assumes nothing.
-use Rattle.std.proofs.Common.{◌≡◌, ℕ, zero, suc, ◌+◌, ◌*◌, ◌<◌, Bool, true, false, ◌||◌, ◌⊎◌, List, [], ◌∷◌, map, length, get_or, sym, refl, ap, ◌∙◌, subst, inl, inr, ⊎_elim, arith}
+use Rattle.std.proofs.Common.{◌≡◌, ℕ, ◌+◌, ◌*◌, ◌<◌, Bool, true, false, ◌||◌, ◌⊎◌, List, [], ◌∷◌, length, get_or, sym, ap, ◌∙◌, subst, inl, inr, ⊎_elim, arith, ◌≤◌}
+use Rattle.std.specs.List.{list_any}
 use Rattle.std.proofs.lemmas.Bool.{cases_eq, cases_Bool, both_ways, or_parts, or_from}
 use Rattle.network.specs.Assignments.{node}
-use Rattle.network.specs.Lists.{In, any_of}
+use Rattle.network.specs.Lists.{In}
 use Rattle.network.specs.Networks.{Free}
 use Rattle.network.proofs.Lists.{any_some, any_from}
 use Rattle.network.specs.Clauses.{last, front}
-use Rattle.rules.specs.Store.{Ref, live, dead, Meaning, is_at, from}
+use Rattle.rules.specs.Store.{Ref, live, dead, Meaning, is_at, up_to}
 use Rattle.rules.specs.Held.{held, Placed}
 use Rattle.rules.specs.Index.{Indexed}
 use Rattle.rules.specs.Work.{Work, each, literals_of, clear, clear_all}
 use Rattle.rules.specs.Bve.{cost, use_marks, uses_cleared, taken_out}
 use Rattle.rules.proofs.Places.{in_at, at_in, held_in, in_held}
-use Rattle.rules.proofs.Index.{at_is, is_here, in_up_to}
+use Rattle.rules.proofs.Index.{at_is, is_here, in_up_to, map_from, from_length}
 use Rattle.rules.proofs.Clear.{Cleared, clear_is, clear_all_is, clear_all_empty}
 use Rattle.rules.proofs.Facts.{nil_length}
+use Rattle.rules.proofs.Lives.{clear_part}
+use Rattle.std.proofs.lemmas.List.{length-map}
 
 pub front_in : (E : List ℕ) (x : ℕ) → In x (front E) → In x E
 front_in [] x h = h
@@ -24,68 +27,63 @@ front_in (y ∷ z ∷ E) x h = ⊎_elim inl (λ j. inr (front_in (z ∷ E) x j))
 pub front_or_last : (E : List ℕ) (x : ℕ) → In x E → In x (front E) ⊎ (x ≡ last E)
 front_or_last [] x h = absurd h
 front_or_last (y ∷ []) x h = ⊎_elim inr absurd h
-front_or_last (y ∷ z ∷ E) x h = ⊎_elim (λ e. inl (inl e)) (λ j. ⊎_elim (λ k. inl (inr k)) inr (front_or_last (z ∷ E) x j)) h
+front_or_last (y ∷ z ∷ E) x h = grind (arith, front_or_last (z ∷ E) x)
 
 -- a literal of v stands in E before the last place
 abbrev pub Uses : ℕ → List ℕ → Type 0
 Uses v E = In (2 * v) (front E) ⊎ In (2 * v + 1) (front E)
 
-map_at : (f : ℕ → Bool) (m i j : ℕ) → j < m → get_or (map f (from i m)) j false ≡ f (i + j)
-map_at f zero i j l = absurd (omega arith)
-map_at f (suc m) i zero l = ap f (omega arith)
-map_at f (suc m) i (suc j) l = map_at f m (suc i) j (omega arith) ∙ ap f (omega arith)
-
-map_length : (f : ℕ → Bool) (m i : ℕ) → length (map f (from i m)) ≡ m
-map_length f zero i = refl
-map_length f (suc m) i = ap suc (map_length f m (suc i))
-
 module _ (M : Meaning) (I : Indexed M) (v l : ℕ) where
   marked : ℕ → Bool
-  marked i = any_of (is_at l i) (M.uses (2 * v)) || any_of (is_at l i) (M.uses (2 * v + 1))
+  marked i = list_any (is_at l i) (M.uses (2 * v)) || list_any (is_at l i) (M.uses (2 * v + 1))
+
+  marks_length : length (use_marks M v l) ≤ length (M.own l)
+  unfolding marked
+  marks_length = omega (arith, length-map (up_to (length (M.own l))) marked, from_length (length (M.own l)) 0)
 
   marks_at : (j : ℕ) → j < length (M.own l) → get_or (use_marks M v l) j false ≡ marked j
   unfolding marked
-  marks_at j h = map_at (λ i. any_of (is_at l i) (M.uses (2 * v)) || any_of (is_at l i) (M.uses (2 * v + 1))) (length (M.own l)) 0 j h ∙ ap (λ i. any_of (is_at l i) (M.uses (2 * v)) || any_of (is_at l i) (M.uses (2 * v + 1))) (omega arith)
+  marks_at j h = map_from (λ i. list_any (is_at l i) (M.uses (2 * v)) || list_any (is_at l i) (M.uses (2 * v + 1))) false (length (M.own l)) 0 j h ∙ ap (λ i. list_any (is_at l i) (M.uses (2 * v)) || list_any (is_at l i) (M.uses (2 * v + 1))) (omega arith)
 
-  ref_named : (x j : ℕ) → any_of (is_at l j) (M.uses x) ≡ true → In x (front (get_or (M.own l) j []))
+  ref_named : (x j : ℕ) → list_any (is_at l j) (M.uses x) ≡ true → In x (front (get_or (M.own l) j []))
   ref_named x j t = go (any_some (is_at l j) (M.uses x) t)
     where
       go : (r : Ref) × In r (M.uses x) × (is_at l j r ≡ true) → In x (front (get_or (M.own l) j []))
       go (dead, i, e) = absurd (I.no_dead x i)
       go (live a b, i, e) = let (p, q) = at_is l j a b e in subst (λ g. In x (front (get_or (M.own g) j []))) p (subst (λ g. In x (front (get_or (M.own a) g []))) q (I.named x a b i).1)
 
-  ref_every : (x j : ℕ) → j < length (M.own l) → In x (front (get_or (M.own l) j [])) → any_of (is_at l j) (M.uses x) ≡ true
+  ref_every : (x j : ℕ) → j < length (M.own l) → In x (front (get_or (M.own l) j [])) → list_any (is_at l j) (M.uses x) ≡ true
   ref_every x j lj h = any_from (is_at l j) (M.uses x) (live l j) (I.every x l j lj h) (is_here l j)
 
   -- clearing the uses of v from own l
   step_left : (E : List ℕ) → In E ((clear l (use_marks M v l) M).own l) → In E (M.own l) × (Uses v E → ⊥)
   unfolding marked
   step_left E h =
-      let (j, lj, u, e) = (clear_is l (use_marks M v l) M (omega (arith, map_length marked (length (M.own l)) 0))).left E h in
+      let (j, lj, u, e) = (clear_is l (use_marks M v l) M marks_length).left E h in
       let (p, q) = parts j (sym (marks_at j lj) ∙ u) in (
         subst (λ C. In C (M.own l)) e (in_at (M.own l) j [] lj),
-        λ w. ⊎_elim (λ a. both_ways (any_of (is_at l j) (M.uses (2 * v))) p (ref_every (2 * v) j lj (subst (λ C. In (2 * v) (front C)) (sym e) a)))
-            (λ a. both_ways (any_of (is_at l j) (M.uses (2 * v + 1))) q (ref_every (2 * v + 1) j lj (subst (λ C. In (2 * v + 1) (front C)) (sym e) a))) w,
+        λ w. ⊎_elim (λ a. both_ways (list_any (is_at l j) (M.uses (2 * v))) p (ref_every (2 * v) j lj (subst (λ C. In (2 * v) (front C)) (sym e) a)))
+            (λ a. both_ways (list_any (is_at l j) (M.uses (2 * v + 1))) q (ref_every (2 * v + 1) j lj (subst (λ C. In (2 * v + 1) (front C)) (sym e) a))) w,
       )
     where
-      parts : (j : ℕ) → marked j ≡ false → (any_of (is_at l j) (M.uses (2 * v)) ≡ false) × (any_of (is_at l j) (M.uses (2 * v + 1)) ≡ false)
-      parts j f = or_parts (any_of (is_at l j) (M.uses (2 * v))) (any_of (is_at l j) (M.uses (2 * v + 1))) f
+      parts : (j : ℕ) → marked j ≡ false → (list_any (is_at l j) (M.uses (2 * v)) ≡ false) × (list_any (is_at l j) (M.uses (2 * v + 1)) ≡ false)
+      parts j f = or_parts (list_any (is_at l j) (M.uses (2 * v))) (list_any (is_at l j) (M.uses (2 * v + 1))) f
 
   step_stays : (E : List ℕ) → In E (M.own l) → (Uses v E → ⊥) → In E ((clear l (use_marks M v l) M).own l)
   unfolding marked
   step_stays E h w =
       let (j, lj, e) = at_in (M.own l) E [] h in
-      (clear_is l (use_marks M v l) M (omega (arith, map_length marked (length (M.own l)) 0))).stays E (j, lj, marks_at j lj ∙ not_marked j e, e)
+      (clear_is l (use_marks M v l) M marks_length).stays E (j, lj, marks_at j lj ∙ not_marked j e, e)
     where
-      not_ref : (x j : ℕ) → get_or (M.own l) j [] ≡ E → (In x (front E) → ⊥) → any_of (is_at l j) (M.uses x) ≡ false
-      not_ref x j e a = ⊎_elim (λ t. absurd (a (subst (λ C. In x (front C)) e (ref_named x j t)))) (λ f. f) (cases_Bool (any_of (is_at l j) (M.uses x)))
+      not_ref : (x j : ℕ) → get_or (M.own l) j [] ≡ E → (In x (front E) → ⊥) → list_any (is_at l j) (M.uses x) ≡ false
+      not_ref x j e a = ⊎_elim (λ t. absurd (a (subst (λ C. In x (front C)) e (ref_named x j t)))) (λ f. f) (cases_Bool (list_any (is_at l j) (M.uses x)))
 
       not_marked : (j : ℕ) → get_or (M.own l) j [] ≡ E → marked j ≡ false
-      not_marked j e = or_from (any_of (is_at l j) (M.uses (2 * v))) (any_of (is_at l j) (M.uses (2 * v + 1))) (not_ref (2 * v) j e (λ a. w (inl a))) (not_ref (2 * v + 1) j e (λ a. w (inr a)))
+      not_marked j e = or_from (list_any (is_at l j) (M.uses (2 * v))) (list_any (is_at l j) (M.uses (2 * v + 1))) (not_ref (2 * v) j e (λ a. w (inl a))) (not_ref (2 * v + 1) j e (λ a. w (inr a)))
 
   step_cleared : Cleared l (use_marks M v l) M (clear l (use_marks M v l) M)
   unfolding marked
-  step_cleared = clear_is l (use_marks M v l) M (omega (arith, map_length marked (length (M.own l)) 0))
+  step_cleared = clear_is l (use_marks M v l) M marks_length
 
 abbrev sweep : ℕ → List ℕ → Meaning → Meaning
 sweep v ls M = each (λ l M. clear l (use_marks M v l) M) ls M
@@ -102,16 +100,12 @@ sweeping v (l ∷ ls) M I =
     let c = step_cleared M I v l in
     let r = sweeping v ls (clear l (use_marks M v l) M) (c.index I) in
     record {
-      down = λ k E h. first_down k E (r.down k E h);
+      down = λ k E h. clear_part l (use_marks M v l) M k E (r.down k E h);
       unused = λ k E i h. ⊎_elim (λ e. (step_left M I v l E (subst (λ g. In E ((clear l (use_marks M v l) M).own g)) e (r.down k E h))).1) (λ j. r.unused k E j h) i;
       stays = λ k E h w. r.stays k E (first_stays k E h w) w;
       index = r.index;
     }
   where
-    first_down : (k : ℕ) (E : List ℕ) → In E ((clear l (use_marks M v l) M).own k) → In E (M.own k)
-    first_down k E h = ⊎_elim (λ e. subst (λ g. In E (M.own g)) (sym e) (step_left M I v l E (subst (λ g. In E ((clear l (use_marks M v l) M).own g)) e h)).0)
-        (λ a. subst (In E) ((step_cleared M I v l).apart k a) h) (cases_eq k l)
-
     first_stays : (k : ℕ) (E : List ℕ) → In E (M.own k) → (Uses v E → ⊥) → In E ((clear l (use_marks M v l) M).own k)
     first_stays k E h w = ⊎_elim (λ e. subst (λ g. In E ((clear l (use_marks M v l) M).own g)) (sym e) (step_stays M I v l E (subst (λ g. In E (M.own g)) e h) w))
         (λ a. subst (In E) (sym ((step_cleared M I v l).apart k a)) h) (cases_eq k l)

@@ -1,14 +1,14 @@
 -- The theorem: what every work that calls reach keeps of the network taken in. Assumes nothing.
-use Rattle.std.proofs.Common.{◌≡◌, ℕ, zero, suc, ◌+◌, ◌*◌, ◌/◌, ◌<◌, ◌≤◌, Bool, true, false, eqb, ◌⊎◌, ◌↔◌, List, [], ◌∷◌, ◌++◌, Some, None, Option, sym, refl, ap, ◌∙◌, subst, inl, inr, ⊎_elim, arith}
+use Rattle.std.proofs.Common.{◌≡◌, ℕ, zero, suc, ◌+◌, ◌*◌, ◌/◌, ◌<◌, ◌≤◌, Bool, true, false, eqb, ◌⊎◌, ◌↔◌, List, [], ◌∷◌, ◌++◌, Some, None, Option, sym, refl, ap, ◌∙◌, subst, inl, inr, ⊎_elim, arith, flat_map}
 use Rattle.std.proofs.lemmas.Bool.{cases_eq, cases_Bool, both_ways, eq-eqb}
 use Rattle.network.specs.Assignments.{Assignment, node, put, holds, sat}
-use Rattle.network.specs.Lists.{In, gather}
+use Rattle.network.specs.Lists.{In}
 use Rattle.network.specs.Levels.{Below}
 use Rattle.network.specs.Networks.{Network, level, Free, Admits}
 use Rattle.network.specs.Clauses.{has}
 use Rattle.network.specs.Values.{Values, unit_of, Obeys}
 use Rattle.network.proofs.Literals.{put_here, put_apart}
-use Rattle.network.proofs.Lists.{all_at, all_from, any_from, in_gather, gather_in}
+use Rattle.network.proofs.Lists.{all_at, all_from, any_from, in_flat_map, flat_map_in}
 use Rattle.network.proofs.Holding.{holds_agree}
 use Rattle.network.proofs.Levels.{below_more}
 use Rattle.network.proofs.Networks.{clause_at}
@@ -51,15 +51,7 @@ module _ (W : Work) (n : ℕ) where
 
   handed_own : (C : List ℕ) → ((W.frozen n ≡ false) ⊎ (W.values n ≡ None)) → In C (held W.store n) → In C (handed_out W n)
   unfolding handed_out held
-  handed_own C h i = go (W.frozen n) (W.values n) refl refl
-    where
-      false_true : W.frozen n ≡ true → (b : Bool) → W.values n ≡ Some b → ⊥
-      false_true p b q = ⊎_elim (λ f. both_ways (W.frozen n) f p) (λ u. let z : ◌≡◌ {A = Option Bool} None (Some b) = sym u ∙ q in absurd (grind (arith, z))) h
-
-      go : (f : Bool) (o : Option Bool) → W.frozen n ≡ f → W.values n ≡ o → In C (only_unit n f o (own_of W (2 * n) ++ own_of W (2 * n + 1)))
-      go f None p q = i
-      go true (Some b) p q = absurd (false_true p b q)
-      go false (Some b) p q = i
+  handed_own C h i = grind (arith, both_ways (W.frozen n))
 
   handed_unit : (b : Bool) → W.frozen n ≡ true → W.values n ≡ Some b → In (unit_of n b) (handed_out W n)
   unfolding handed_out
@@ -89,12 +81,12 @@ module _ (ws : List ℕ) (W : Work) (G : Good (taken_in ws) W) (tops : W.top ≡
   -- the clauses taken in hold where the levels do
   to_levels : (σ : Assignment) → sat σ (clauses_in ws) ≡ true → Below (level (taken_in ws)) n σ
   unfolding clauses_in
-  to_levels σ s j l = all_from (holds σ) (taken_in ws j) (λ C i. all_at (holds σ) (gather (taken_in ws) (up_to (suc (top ws)))) s C (in_gather (taken_in ws) (up_to (suc (top ws))) j C (in_up_to (suc (top ws)) j (omega (arith, tops))) i))
+  to_levels σ s j l = all_from (holds σ) (taken_in ws j) (λ C i. all_at (holds σ) (flat_map (taken_in ws) (up_to (suc (top ws)))) s C (in_flat_map (taken_in ws) (up_to (suc (top ws))) j C (in_up_to (suc (top ws)) j (omega (arith, tops))) i))
 
   from_levels : (σ : Assignment) → Below (level (taken_in ws)) n σ → sat σ (clauses_in ws) ≡ true
   unfolding clauses_in
-  from_levels σ s = all_from (holds σ) (gather (taken_in ws) (up_to (suc (top ws)))) (λ C i.
-      let (k, a, b) = gather_in (taken_in ws) (up_to (suc (top ws))) C i in
+  from_levels σ s = all_from (holds σ) (flat_map (taken_in ws) (up_to (suc (top ws)))) (λ C i.
+      let (k, a, b) = flat_map_in (taken_in ws) (up_to (suc (top ws))) C i in
       clause_at (taken_in ws) n k C σ s (omega (arith, from_in (suc (top ws)) 0 k a, tops)) b)
 
   -- node 0 hands out the clause of its value
@@ -108,13 +100,13 @@ module _ (ws : List ℕ) (W : Work) (G : Good (taken_in ws) W) (tops : W.top ≡
   out_in : (C : List ℕ) → In C (clauses_in (words_out W)) → (k : ℕ) × (k ≤ W.top) × In C (handed_out W k)
   unfolding clauses_in
   out_in C i =
-      let (k, a, b) = gather_in (taken_in (words_out W)) (up_to (suc (top (words_out W)))) C i in
+      let (k, a, b) = flat_map_in (taken_in (words_out W)) (up_to (suc (top (words_out W)))) C i in
       let l : k ≤ W.top = omega (arith, from_in (suc (top (words_out W))) 0 k a, good_read.tops) in
       (k, l, subst (In C) (good_read.network k l) b)
 
   in_out : (C : List ℕ) (k : ℕ) → k ≤ W.top → In C (handed_out W k) → In C (clauses_in (words_out W))
   unfolding clauses_in
-  in_out C k l i = in_gather (taken_in (words_out W)) (up_to (suc (top (words_out W)))) k C (in_up_to (suc (top (words_out W))) k (omega (arith, good_read.tops))) (subst (In C) (sym (good_read.network k l)) i)
+  in_out C k l i = in_flat_map (taken_in (words_out W)) (up_to (suc (top (words_out W)))) k C (in_up_to (suc (top (words_out W))) k (omega (arith, good_read.tops))) (subst (In C) (sym (good_read.network k l)) i)
 
   -- what holds of the work holds of what is handed out
   handed_holds : (σ : Assignment) → Below (level own) n σ → Obeys σ V → sat σ (clauses_in (words_out W)) ≡ true

@@ -1,19 +1,20 @@
 -- No entry of start, const_simplify or bve_simplify is refused, so each is what it is without the tests. Assumes nothing.
-use Rattle.std.proofs.Common.{◌≡◌, ℕ, zero, suc, ◌+◌, ◌*◌, ◌/◌, ◌<◌, ◌≤◌, Bool, true, false, cond, not, ltb, List, [], ◌∷◌, map, length, Some, None, Option, sym, refl, ap, ◌∙◌, subst, ⊎_elim, arith}
+use Rattle.std.proofs.Common.{◌≡◌, ℕ, zero, suc, ◌+◌, ◌*◌, ◌/◌, ◌<◌, ◌≤◌, Bool, true, false, cond, not, ltb, List, [], ◌∷◌, map, length, Some, sym, refl, ap, ◌∙◌, subst, ⊎_elim, arith}
+use Rattle.std.specs.List.{list_any}
 use Rattle.std.proofs.lemmas.Bool.{cond_both, or_parts, and_parts, not-true, ltb-false}
 use Rattle.network.specs.Assignments.{Assignment, node}
 use Rattle.network.specs.Networks.{Network}
 use Rattle.network.specs.Clauses.{has, last, Ordered}
-use Rattle.network.specs.Lists.{In, any_of}
+use Rattle.network.specs.Lists.{In}
 use Rattle.network.specs.Values.{simplified}
 use Rattle.network.specs.Lemmas.{lemmas}
-use Rattle.network.proofs.Lists.{in_cases, any_none, gather_in}
+use Rattle.network.proofs.Lists.{in_cases, any_none, flat_map_in}
 use Rattle.rules.specs.Store.{Meaning, from, up_to, sum_of, live_clauses, kept_clauses, index_on, index_off}
 use Rattle.rules.specs.Held.{held, Placed}
 use Rattle.rules.specs.Good.{Good}
 use Rattle.rules.specs.Lawful.{Lawful}
-use Rattle.rules.specs.Work.{Work, storing, each, nodes_of, clear, clear_all}
-use Rattle.rules.specs.Const.{then_negative, both_cleared, judged, const_node, if_known, const_drop, const_simplify}
+use Rattle.rules.specs.Work.{Work, storing, each, nodes_of, clear}
+use Rattle.rules.specs.Const.{then_negative, both_cleared, judged, const_node, const_drop, const_simplify}
 use Rattle.rules.specs.Bve.{cost, all_resolvents, use_count, uses_cleared, taken_out, eliminated, passed_over, given_up, attempted, attempt, least, but, attempts, bve_simplify}
 use Rattle.rules.specs.Turns.{Turn, entries, turns, const_turns, judged_entries, node_entries, const_entries, attempt_turns, bve_turns, takes_out, attempt_entries, bve_entries, Accepted, AllAccepted}
 use Rattle.rules.proofs.Plain as plain
@@ -23,13 +24,13 @@ use Rattle.rules.proofs.Drops.{not_nil}
 use Rattle.rules.proofs.Formed.{formed_parts, parts_formed, not_nil_some, some_not_nil}
 use Rattle.rules.proofs.TakenOut.{swept_none}
 use Rattle.rules.proofs.HowMany.{sum_apart, sum_part}
+use Rattle.rules.proofs.Along.{fewer_chains, each_along, both_along}
 use Rattle.rules.proofs.Passes.{index_on_keeps, taken_out_keeps, attempt_keeps}
 use Rattle.rules.proofs.Bve.{GoodIndexed, attempt_good, index_good, eliminated_any}
-use Rattle.rules.proofs.Shrinks.{lemmas_length, lemmas_short, taken_out_less, taken_out_dead, clear_part, clear_kept, clear_room}
+use Rattle.rules.proofs.Shrinks.{lemmas_length, lemmas_short, taken_out_less, taken_out_dead, clear_kept, clear_room}
 use Rattle.rules.proofs.Accepted.{AllFormed, AllShort, adds_accepted, adds_short, judged_accepted, judged_short, judged_kept, adds_live}
 use Rattle.rules.proofs.Const as const
-use Rattle.rules.proofs.Facts.{le_same, le_trans}
-use Rattle.rules.proofs.Lives.{index_live}
+use Rattle.rules.proofs.Lives.{index_live, unindex_live, removed_kept, clear_part}
 
 -- ## What is well formed
 
@@ -109,24 +110,15 @@ module _ (first : Network) (n : ℕ) (gone frozen : Assignment) (small : n ≤ 1
       k1 : (kept_clauses r1.1.store ≤ kept_clauses r0.1.store + length (W.store.own l1)) × (r1.1.store.room ≡ r0.1.store.room)
       k1 = judged_kept (W.store.own l1) r0.1
 
-      first_part : (a b c q : ℕ) → a + (b + c) ≤ q → a + b ≤ q
-      first_part a b c q h = omega arith
-
-      second_part : (a b c d q p : ℕ) → a + (b + c) ≤ q → d ≤ a + b → p ≡ q → d + c ≤ p
-      second_part a b c d q p h w e = omega arith
-
       a0 : (judged (W.store.own l0) W ≡ r0) × AllAccepted (judged_entries (W.store.own l0) W)
-      a0 = judged_accepted (W.store.own l0) W (consting_formed r0.1 J0.cons s0) (first_part (kept_clauses W.store) (length (W.store.own l0)) (length (W.store.own l1)) W.store.room r)
+      a0 = judged_accepted (W.store.own l0) W (consting_formed r0.1 J0.cons s0) (omega (arith, r))
 
       a1 : (judged (W.store.own l1) r0.1 ≡ r1) × AllAccepted (judged_entries (W.store.own l1) r0.1)
       a1 = judged_accepted (W.store.own l1) r0.1 (consting_formed r1.1 J1.cons s1)
-          (second_part (kept_clauses W.store) (length (W.store.own l0)) (length (W.store.own l1)) (kept_clauses r0.1.store) W.store.room r0.1.store.room r k0.0 k0.1)
+          (omega (arith, r, k0.0, k0.1))
 
       abbrev M2 : Meaning
       M2 = clear l0 r0.0 r1.1.store
-
-      sums : (a b c d e f g : ℕ) → b ≤ a + c → e ≤ b + d → f ≤ e → g ≤ f → g ≤ a + (c + d)
-      sums a b c d e f g p q s t = omega arith
 
       node_done : NodeDone m W
       unfolding const_node plain.const_node
@@ -135,8 +127,7 @@ module _ (first : Network) (n : ℕ) (gone frozen : Assignment) (small : n ≤ 1
         accepted = λ e i. ⊎_elim (a0.1 e) (λ j. a1.1 e (subst (λ q. In e (judged_entries (W.store.own l1) q.1)) a0.0 j))
             (in_cases e (judged_entries (W.store.own l0) W) (judged_entries (W.store.own l1) (judged (W.store.own l0) W).1) i);
         short = λ k E i. s1 k E (clear_part l0 r0.0 r1.1.store k E (clear_part l1 r1.0 M2 k E i));
-        kept = sums (kept_clauses W.store) (kept_clauses r0.1.store) (length (W.store.own l0)) (length (W.store.own l1)) (kept_clauses r1.1.store) (kept_clauses M2) (kept_clauses (clear l1 r1.0 M2))
-            k0.0 k1.0 (clear_kept l0 r0.0 r1.1.store) (clear_kept l1 r1.0 M2);
+        kept = omega (arith, k0.0, k1.0, clear_kept l0 r0.0 r1.1.store, clear_kept l1 r1.0 M2);
         room = clear_room l1 r1.0 M2 ∙ clear_room l0 r0.0 r1.1.store ∙ k1.1 ∙ k0.1;
       }
 
@@ -144,65 +135,46 @@ module _ (first : Network) (n : ℕ) (gone frozen : Assignment) (small : n ≤ 1
       → (each const_node (from i t) W ≡ each plain.const_node (from i t) W) × ((T : Turn) → In T (turns (from i t) W) → AllAccepted (node_entries T.at T.before))
       × (kept_clauses (each plain.const_node (from i t) W).store ≤ kept_clauses W.store + ahead t i W.store)
   unfolding turns ahead
-  nodes_accepted zero i W c s r = (refl, (λ T h. absurd h), none (kept_clauses W.store))
-    where
-      none : (a : ℕ) → a ≤ a + 0
-      none a = omega arith
+  nodes_accepted zero i W c s r = (refl, (λ T h. absurd h), omega arith)
   nodes_accepted (suc t) i W c s r =
-      let d = node_done i W c s (first_part (kept_clauses W.store) (length (W.store.own (2 * i)) + length (W.store.own (2 * i + 1))) (ahead t (suc i) W.store) W.store.room r) in
+      let d = node_done i W c s (omega (arith, r)) in
       let N = const.noded first n gone frozen i W c in
       let same : ahead t (suc i) (plain.const_node i W).store ≡ ahead t (suc i) W.store = unfold ahead in (sum_apart (λ k. length ((plain.const_node i W).store.own (2 * k)) + length ((plain.const_node i W).store.own (2 * k + 1)))
       (λ k. length (W.store.own (2 * k)) + length (W.store.own (2 * k + 1))) t (suc i)
       (λ k h. both_lengths ((plain.const_node i W).store.own (2 * k)) (W.store.own (2 * k)) ((plain.const_node i W).store.own (2 * k + 1)) (W.store.own (2 * k + 1)) (N.turn.apart (2 * k) (λ q. omega arith)) (N.turn.apart (2 * k + 1) (λ q. omega arith)))) in
       let (q, f, k) = nodes_accepted t (suc i) (plain.const_node i W) N.cons d.short
-      (step (kept_clauses W.store) (length (W.store.own (2 * i)) + length (W.store.own (2 * i + 1))) (ahead t (suc i) W.store) W.store.room (kept_clauses (plain.const_node i W).store) (ahead t (suc i) (plain.const_node i W).store) (plain.const_node i W).store.room r d.kept same d.room) in (
+      (omega (arith, r, d.kept, same, d.room)) in (
         ap (each const_node (from (suc i) t)) d.agrees ∙ q,
         λ T h. ⊎_elim (λ e. subst (λ U. AllAccepted (node_entries U.at U.before)) (sym e) d.accepted) (λ j. f T (subst (λ U. In T (turns (from (suc i) t) U)) d.agrees j)) h,
-        far (kept_clauses W.store) (length (W.store.own (2 * i)) + length (W.store.own (2 * i + 1))) (ahead t (suc i) W.store) (kept_clauses (plain.const_node i W).store) (ahead t (suc i) (plain.const_node i W).store) (kept_clauses (each plain.const_node (from (suc i) t) (plain.const_node i W)).store) d.kept same k,
+        omega (arith, d.kept, same, k),
       )
-    where
-      far : (a b c d e f : ℕ) → d ≤ a + b → e ≡ c → f ≤ d + e → f ≤ a + (b + c)
-      far a b c d e f p q r = omega arith
-
-      first_part : (a b c q : ℕ) → a + (b + c) ≤ q → a + b ≤ q
-      first_part a b c q h = omega arith
-
-      step : (a b c q d e p : ℕ) → a + (b + c) ≤ q → d ≤ a + b → e ≡ c → p ≡ q → d + e ≤ p
-      step a b c q d e p h w u v = omega arith
 
 -- valued nodes lose clauses
 drop_kept : (n : ℕ) (W : Work) → kept_clauses (const_drop n W).store ≤ kept_clauses W.store
-unfolding const_drop clear_all
-drop_kept n W = go (W.values n)
-  where
-    go : (o : Option Bool) → kept_clauses (if_known o (storing W (clear_all (2 * n + 1) (clear_all (2 * n) W.store))) W).store ≤ kept_clauses W.store
-    go None = le_same (kept_clauses W.store)
-    go (Some b) = le_trans (kept_clauses (clear_all (2 * n + 1) (clear_all (2 * n) W.store))) (kept_clauses (clear_all (2 * n) W.store)) (kept_clauses W.store) (clear_kept (2 * n + 1) _ (clear_all (2 * n) W.store)) (clear_kept (2 * n) _ W.store)
+unfolding const_drop
+drop_kept n W = grind (arith, W.store, both_along, fewer_chains kept_clauses, removed_kept)
 
 drops_kept : (ns : List ℕ) (W : Work) → kept_clauses (each const_drop ns W).store ≤ kept_clauses W.store
-drops_kept [] W = le_same (kept_clauses W.store)
-drops_kept (n ∷ ns) W = le_trans (kept_clauses (each const_drop ns (const_drop n W)).store) (kept_clauses (const_drop n W).store) (kept_clauses W.store) (drops_kept ns (const_drop n W)) (drop_kept n W)
+drops_kept = each_along (λ W N. kept_clauses N.store ≤ kept_clauses W.store) (fewer_chains (λ W. kept_clauses W.store)) const_drop drop_kept
 
 -- the clauses of nodes, by literals
 pub pairs : (f : ℕ → ℕ) (t i : ℕ) → sum_of (map (λ k. f (2 * k) + f (2 * k + 1)) (from i t)) ≡ sum_of (map f (from (2 * i) (2 * t)))
 pairs f zero i = refl
 pairs f (suc t) i = subst (λ m. f (2 * i) + f (2 * i + 1) + sum_of (map (λ k. f (2 * k) + f (2 * k + 1)) (from (suc i) t)) ≡ sum_of (map f (from (2 * i) m))) {x = suc (suc (2 * t))} {y = 2 * suc t} (omega arith)
-    (step (f (2 * i)) (f (2 * i + 1)) (f (suc (2 * i))) _ _ (ap f (omega arith)) (pairs f t (suc i) ∙ ap (λ m. sum_of (map f (from m (2 * t)))) {x = 2 * suc i} {y = suc (suc (2 * i))} (omega arith)))
-  where
-    step : (a b c d e : ℕ) → b ≡ c → d ≡ e → a + b + d ≡ a + (c + e)
-    step a b c d e p q = omega arith
+    (omega (arith, ap f {x = 2 * i + 1} {y = suc (2 * i)} (omega arith), pairs f t (suc i) ∙ ap (λ m. sum_of (map f (from m (2 * t)))) {x = 2 * suc i} {y = suc (suc (2 * i))} (omega arith)))
 
 module _ (first : Network) (W : Work) (G : Good first W) (L : Lawful W.store) (h : live_clauses W.store ≤ W.store.room / 2) where
   abbrev W₀ : Work
   W₀ = storing W (index_off W.store)
 
-  room_for : kept_clauses W₀.store + ahead W.top 1 W₀.store ≤ W₀.store.room
+  off : (live_clauses W₀.store ≡ live_clauses W.store) × (W₀.store.dead_clauses ≡ 0) × (W₀.store.room ≡ W.store.room)
+  unfolding index_off
+  off = (unindex_live W.store, refl, refl)
+
+  ahead_few : ahead W.top 1 W₀.store ≤ live_clauses W.store
   unfolding ahead live_clauses index_off
-  room_for = sums (sum_of (map (λ l. length (W.store.own l)) (from 0 2048))) (sum_of (map (λ k. length (W.store.own (2 * k)) + length (W.store.own (2 * k + 1))) (from 1 W.top))) (sum_of (map (λ l. length (W.store.own l)) (from (2 * 1) (2 * W.top)))) W.store.room
-      h (pairs (λ l. length (W.store.own l)) W.top 1) (sum_part (λ l. length (W.store.own l)) 2048 0 (2 * W.top) (2 * 1) (omega arith) (omega (arith, G.small)))
-    where
-      sums : (a b c r : ℕ) → a ≤ r / 2 → b ≡ c → c ≤ a → a + 0 + b ≤ r
-      sums a b c r p q s = omega arith
+  ahead_few = subst (λ n. n ≤ sum_of (map (λ l. length (W.store.own l)) (from 0 2048))) (sym (pairs (λ l. length (W.store.own l)) W.top 1))
+      (sum_part (λ l. length (W.store.own l)) 2048 0 (2 * W.top) (2 * 1) (omega arith) (omega (arith, G.small)))
 
   short₀ : AllShort W₀.store
   unfolding index_off
@@ -210,31 +182,25 @@ module _ (first : Network) (W : Work) (G : Good first W) (L : Lawful W.store) (h
 
   accepted₀ : (each const_node (from 1 W.top) W₀ ≡ each plain.const_node (from 1 W.top) W₀) × ((T : Turn) → In T (turns (from 1 W.top) W₀) → AllAccepted (node_entries T.at T.before))
       × (kept_clauses (each plain.const_node (from 1 W.top) W₀).store ≤ kept_clauses W₀.store + ahead W.top 1 W₀.store)
-  accepted₀ = nodes_accepted first (suc W.top) (λ k. has k W.out) W.frozen (omega (arith, G.small)) W.top 1 W₀ (const.begin first W G) short₀ room_for
+  accepted₀ = nodes_accepted first (suc W.top) (λ k. has k W.out) W.frozen (omega (arith, G.small)) W.top 1 W₀ (const.begin first W G) short₀ (omega (arith, h, ahead_few, off.0, off.1, off.2))
 
   pub const_agrees : const_simplify W ≡ plain.const_simplify W
   unfolding const_simplify plain.const_simplify
   const_agrees = ap (each const_drop (nodes_of W)) (ap (λ ns. each const_node ns W₀) (const.suc_from W.top 0) ∙ accepted₀.0 ∙ sym (ap (λ ns. each plain.const_node ns W₀) (const.suc_from W.top 0)))
 
-  room_twice : kept_clauses W₀.store + ahead W.top 1 W₀.store ≤ 2 * live_clauses W.store
-  unfolding ahead live_clauses index_off
-  room_twice = sums (sum_of (map (λ l. length (W.store.own l)) (from 0 2048))) (sum_of (map (λ k. length (W.store.own (2 * k)) + length (W.store.own (2 * k + 1))) (from 1 W.top))) (sum_of (map (λ l. length (W.store.own l)) (from (2 * 1) (2 * W.top))))
-      (pairs (λ l. length (W.store.own l)) W.top 1) (sum_part (λ l. length (W.store.own l)) 2048 0 (2 * W.top) (2 * 1) (omega arith) (omega (arith, G.small)))
-    where
-      sums : (a b c : ℕ) → b ≡ c → c ≤ a → a + 0 + b ≤ 2 * a
-      sums a b c q s = omega arith
-
   pub const_doubles : live_clauses (const_simplify W).store ≤ 2 * live_clauses W.store
   unfolding const_simplify
-  const_doubles = sums (live_clauses (const_simplify W).store) (const_simplify W).store.dead_clauses (kept_clauses (each const_node (nodes_of W) W₀).store) (kept_clauses W₀.store + ahead W.top 1 W₀.store) (2 * live_clauses W.store)
-      (drops_kept (nodes_of W) (each const_node (nodes_of W) W₀))
-      (subst (λ U. kept_clauses U.store ≤ kept_clauses W₀.store + ahead W.top 1 W₀.store) (sym (ap (λ ns. each const_node ns W₀) (const.suc_from W.top 0) ∙ accepted₀.0)) accepted₀.2) room_twice
-    where
-      sums : (a d k n m : ℕ) → a + d ≤ k → k ≤ n → n ≤ m → a ≤ m
-      sums a d k n m p q r = omega arith
+  const_doubles = omega (
+    arith,
+    drops_kept (nodes_of W) (each const_node (nodes_of W) W₀),
+    subst (λ U. kept_clauses U.store ≤ kept_clauses W₀.store + ahead W.top 1 W₀.store) (sym (ap (λ ns. each const_node ns W₀) (const.suc_from W.top 0) ∙ accepted₀.0)) accepted₀.2,
+    ahead_few,
+    off.0,
+    off.1,
+  )
 
   pub const_accepted : AllAccepted (const_entries W)
-  const_accepted e i = go (gather_in (λ t. node_entries t.at t.before) (const_turns W) e i)
+  const_accepted e i = go (flat_map_in (λ t. node_entries t.at t.before) (const_turns W) e i)
     where
       go : (T : Turn) × In T (const_turns W) × In e (node_entries T.at T.before) → (S : List ℕ) → simplified e.before.values e.clause ≡ Some S → Accepted e.before S
       go (T, j, k) = accepted₀.1 T (subst (λ ns. In T (turns ns W₀)) (const.suc_from W.top 0) j) e k
@@ -245,7 +211,7 @@ module _ (first : Network) (W : Work) (G : Good first W) (L : Lawful W.store) (h
 pub kept_few : (W : Work) (v : ℕ) → given_up W v (all_resolvents W.store v) ≡ false
     → ((R : List ℕ) → In R (all_resolvents W.store v) → length R ≤ 32) × (length (all_resolvents W.store v) ≤ cost W.store v)
 kept_few W v f =
-    let (a, b) = or_parts (any_of (λ R. ltb 32 (length R)) (all_resolvents W.store v)) (ltb (cost W.store v) (length (all_resolvents W.store v))) f in
+    let (a, b) = or_parts (list_any (λ R. ltb 32 (length R)) (all_resolvents W.store v)) (ltb (cost W.store v) (length (all_resolvents W.store v))) f in
     ((λ R i. ltb-false 32 (length R) (any_none (λ R. ltb 32 (length R)) (all_resolvents W.store v) a R i)), ltb-false (cost W.store v) (length (all_resolvents W.store v)) b)
 
 module _ (first : Network) where
@@ -260,18 +226,11 @@ module _ (first : Network) where
     out_less = taken_out_less v W L G.1 bound
 
     out_room : length (lemmas Rs) ≤ cost W.store v → kept_clauses (taken_out v W).store + length (lemmas Rs) ≤ (taken_out v W).store.room
-    out_room le = sums (live_clauses (taken_out v W).store) (taken_out v W).store.dead_clauses (length (lemmas Rs)) (cost W.store v) (live_clauses W.store) W.store.dead_clauses W.store.room (taken_out v W).store.room
-        le out_less (taken_out_dead v W) L.within (taken_out_keeps v W L).1
-      where
-        sums : (a d n c b e r q : ℕ) → n ≤ c → a + c ≤ b → d ≡ e → b + e ≤ r → q ≡ r → a + d + n ≤ q
-        sums a d n c b e r q p s t u w = omega arith
+    out_room le = omega (arith, le, out_less, taken_out_dead v W, L.within, (taken_out_keeps v W L).1)
 
     few : given_up W v Rs ≡ false → length (lemmas Rs) ≤ cost W.store v
     unfolding Rs
-    few f = le_both (length (lemmas (all_resolvents W.store v))) (length (all_resolvents W.store v)) (cost W.store v) (lemmas_length (all_resolvents W.store v)) (kept_few W v f).1
-      where
-        le_both : (a b c : ℕ) → a ≤ b → b ≤ c → a ≤ c
-        le_both a b c p q = omega arith
+    few f = omega (arith, lemmas_length (all_resolvents W.store v), (kept_few W v f).1)
 
     -- a node with a cost is one of the work's, and was not taken out before
     eliminated_accepted : passed_over W v ≡ false → given_up W v Rs ≡ false → (eliminated v Rs W ≡ plain.eliminated v Rs W) × AllAccepted (entries (lemmas Rs) (taken_out v W))
@@ -288,10 +247,7 @@ module _ (first : Network) where
     unfolding Rs
     takes_less e =
         let (a, b) = and_parts (not (passed_over W v)) (not (given_up W v (all_resolvents W.store v))) e in
-        sums (live_clauses (taken_out v W).store) (length (lemmas (all_resolvents W.store v))) (cost W.store v) (live_clauses W.store) out_less (few (not-true (given_up W v (all_resolvents W.store v)) b))
-      where
-        sums : (a n c b : ℕ) → a + c ≤ b → n ≤ c → a + n ≤ b
-        sums a n c b p q = omega arith
+        omega (arith, out_less, few (not-true (given_up W v (all_resolvents W.store v)) b))
 
     pub uses_none : (length ((uses_cleared v W).uses (2 * v)) ≡ 0) × (length ((uses_cleared v W).uses (2 * v + 1)) ≡ 0)
     uses_none = (none (2 * v) (omega arith), none (2 * v + 1) (omega arith))
@@ -317,14 +273,10 @@ module _ (first : Network) where
 
     pub attempt_shrinks : live_clauses (attempt v W).store ≤ live_clauses W.store
     unfolding attempt Rs
-    attempt_shrinks = cond_both (passed_over W v) W (attempted v (all_resolvents W.store v) W) (λ N. live_clauses N.store ≤ live_clauses W.store) (λ e. le_same (live_clauses W.store))
-        (λ e. cond_both (given_up W v (all_resolvents W.store v)) W (eliminated v (all_resolvents W.store v) W) (λ N. live_clauses N.store ≤ live_clauses W.store) (λ f. le_same (live_clauses W.store))
+    attempt_shrinks = cond_both (passed_over W v) W (attempted v (all_resolvents W.store v) W) (λ N. live_clauses N.store ≤ live_clauses W.store) (λ e. omega arith)
+        (λ e. cond_both (given_up W v (all_resolvents W.store v)) W (eliminated v (all_resolvents W.store v) W) (λ N. live_clauses N.store ≤ live_clauses W.store) (λ f. omega arith)
         (λ f. subst (λ N. live_clauses N.store ≤ live_clauses W.store) (sym (eliminated_accepted e f).0) (unfold plain.eliminated in
-        (sums (live_clauses (taken_out v W).store) (cost W.store v) (live_clauses W.store) (length (lemmas (all_resolvents W.store v))) (live_clauses (each plain.add (lemmas (all_resolvents W.store v)) (taken_out v W)).store) out_less (few f)
-        (adds_live (lemmas (all_resolvents W.store v)) (taken_out v W))))))
-      where
-        sums : (a c b n d : ℕ) → a + c ≤ b → n ≤ c → d ≤ a + n → d ≤ b
-        sums a c b n d p q r = omega arith
+        (omega (arith, out_less, few f, adds_live (lemmas (all_resolvents W.store v)) (taken_out v W))))))
 
     pub attempt_both : GoodIndexed first (attempt v W) × Lawful (attempt v W).store
     attempt_both = (subst (GoodIndexed first) (sym attempt_agrees) (attempt_good first v W G), (attempt_keeps v W L).0)
@@ -349,11 +301,11 @@ module _ (first : Network) where
 
   attempts_shrink : (r f : ℕ) (ws : List ℕ) (W : Work) → Met r W → live_clauses (attempts f ws W).store ≤ live_clauses W.store
   unfolding attempts
-  attempts_shrink r zero ws W m = le_same (live_clauses W.store)
-  attempts_shrink r (suc f) [] W m = le_same (live_clauses W.store)
+  attempts_shrink r zero ws W m = omega arith
+  attempts_shrink r (suc f) [] W m = omega arith
   attempts_shrink r (suc f) (k ∷ ks) W m =
       let n = least (use_count W.store) k ks in
-      le_trans (live_clauses (attempts f (but n (k ∷ ks)) (attempt n W)).store) (live_clauses (attempt n W).store) (live_clauses W.store) (attempts_shrink r f (but n (k ∷ ks)) (attempt n W) (attempt_met r n W m)) (attempt_shrinks n W m.good m.lawful)
+      omega (arith, attempts_shrink r f (but n (k ∷ ks)) (attempt n W) (attempt_met r n W m), attempt_shrinks n W m.good m.lawful)
 
   module _ (W : Work) (G : Good first W) (L : Lawful W.store) where
     index_met : W.store.indexed ≡ false → Met W.store.room (storing W (index_on W.store))
@@ -365,16 +317,14 @@ module _ (first : Network) where
 
     pub bve_shrinks : live_clauses (bve_simplify W).store ≤ live_clauses W.store
     unfolding bve_simplify
-    bve_shrinks = cond_both W.store.indexed W _ (λ N. live_clauses N.store ≤ live_clauses W.store) (λ e. le_same (live_clauses W.store))
-        (λ e. subst (λ n. live_clauses (attempts (suc W.top) (up_to (suc W.top)) (storing W (index_on W.store))).store ≤ n) (index_live W.store)
-        (attempts_shrink W.store.room (suc W.top) (up_to (suc W.top)) (storing W (index_on W.store)) (index_met e)))
+    bve_shrinks = grind (arith, W.store, W.top, index_live W.store, attempts_shrink W.store.room (suc W.top) (up_to (suc W.top)) (storing W (index_on W.store)), index_met)
 
     pub bve_met : (T : Turn) → In T (bve_turns W) → Met W.store.room T.before
     bve_met T = cond_both W.store.indexed [] (attempt_turns (suc W.top) (up_to (suc W.top)) (storing W (index_on W.store))) (λ Ts. In T Ts → Met W.store.room T.before)
         (λ e i. absurd i) (λ e i. (attempts_met W.store.room (suc W.top) (up_to (suc W.top)) (storing W (index_on W.store)) (index_met e)).1 T i)
 
     pub bve_accepted : AllAccepted (bve_entries W)
-    bve_accepted e i = go (gather_in (λ t. attempt_entries t.at t.before) (bve_turns W) e i)
+    bve_accepted e i = go (flat_map_in (λ t. attempt_entries t.at t.before) (bve_turns W) e i)
       where
         go : (T : Turn) × In T (bve_turns W) × In e (attempt_entries T.at T.before) → (S : List ℕ) → simplified e.before.values e.clause ≡ Some S → Accepted e.before S
         go (T, j, k) = attempt_accepted T.at T.before (bve_met T j).good (bve_met T j).lawful e k

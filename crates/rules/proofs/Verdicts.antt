@@ -1,6 +1,6 @@
 -- What the verdict of one clause on another says. Assumes nothing.
 use Rattle.std.proofs.Common.{◌≡◌, ℕ, suc, ◌≤◌, Bool, true, false, not, eqb, List, [], ◌∷◌, length, Some, None, Option, sym, refl, ap, ◌∙◌, subst, inl, inr, ⊎_elim, arith}
-use Rattle.std.proofs.lemmas.Bool.{cases_eq, cond_both, eqb-true, eqb-false}
+use Rattle.std.proofs.lemmas.Bool.{cases_eq}
 use Rattle.std.proofs.lemmas.Bool.Decides.{nat_tests}
 use Rattle.network.specs.Assignments.{node, opposite}
 use Rattle.network.specs.Lists.{In}
@@ -34,14 +34,7 @@ Judged C D long_lost = (x : ℕ) × Strengthens x C D × (node x ≡ owner D)
 Judged C D (strengthened z) = (x : ℕ) × (z ≡ opposite x) × Strengthens x C D × (node x ≡ owner D → ⊥)
 
 judged_but : (C D : List ℕ) (x : ℕ) → Strengthens x C D → Judged C D (verdict_of C D (false, Some x))
-judged_but C D x b =
-    cond_both (eqb (length C) (length D)) _ _ (Judged C D)
-    (λ e. cond_both (eqb (node x) (node (last C))) both_lost (merged x) (Judged C D)
-    (λ f. (x, b, eqb-true (length C) (length D) e, eqb-true (node x) (node (last C)) f ∙ sym (owner_last C)))
-    (λ f. (b, eqb-true (length C) (length D) e, λ q. eqb-false (node x) (node (last C)) f (q ∙ owner_last C))))
-    (λ e. cond_both (eqb (node x) (node (last D))) long_lost (strengthened (opposite x)) (Judged C D)
-    (λ f. (x, b, eqb-true (node x) (node (last D)) f ∙ sym (owner_last D)))
-    (λ f. (x, refl, b, λ q. eqb-false (node x) (node (last D)) f (q ∙ owner_last D))))
+judged_but C D x b = grind (arith, nat_tests, owner_last C, owner_last D)
 
 judged_answer : (C D : List ℕ) (r : Bool × Option ℕ) → Fitted None C D r → Judged C D (verdict_of C D (test_answer r))
 judged_answer C D (true, None) h = h

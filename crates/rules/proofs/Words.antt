@@ -1,6 +1,7 @@
 -- The image handed out is read as the clauses handed out. Assumes nothing.
-use Rattle.std.proofs.Common.{◌≡◌, ℕ, zero, suc, ◌+◌, ◌-◌, ◌<◌, ◌≤◌, List, [], ◌∷◌, ◌++◌, map, length, get_or, take, drop, sym, refl, ap, ◌∙◌, arith}
-use Rattle.network.specs.Lists.{gather}
+use Rattle.std.proofs.Common.{◌≡◌, ℕ, zero, suc, ◌+◌, ◌-◌, ◌<◌, ◌≤◌, List, [], ◌∷◌, ◌++◌, map, length, get_or, take, drop, sym, refl, ap, ◌∙◌, arith, flat_map}
+use Rattle.std.proofs.lemmas.List.{get_or_append_left, length-append, length-map, take_at}
+use Rattle.std.proofs.Math.Seq.{drop-append-add}
 use Rattle.image.specs.Headers.{top, stated_count, offset, run}
 use Rattle.image.specs.Runs.{clauses, written}
 use Rattle.image.proofs.Heads.{run_is}
@@ -10,9 +11,8 @@ use Rattle.rules.specs.Store.{from, sum_of}
 use Rattle.rules.specs.Work.{Work, nodes_of}
 use Rattle.rules.specs.Calls.{handed_out, runs_out, ends, count_out, words_out}
 use Rattle.rules.specs.Theorem.{ReadAs}
-use Rattle.rules.proofs.Index.{append_length, append_below}
-use Rattle.rules.proofs.HowMany.{map_length}
 use Rattle.rules.proofs.Const.{suc_from}
+use Rattle.rules.proofs.Index.{map_from, from_length}
 
 -- ## Runs one after another
 
@@ -32,19 +32,11 @@ ends_at [] a k l = absurd (omega arith)
 ends_at (r ∷ Rs) a zero l = omega arith
 ends_at (r ∷ Rs) a (suc k) l = omega (arith, ends_at Rs (a + length r) k (omega arith))
 
-take_all : (xs ys : List ℕ) → take (length xs) (xs ++ ys) ≡ xs
-take_all [] ys = refl
-take_all (x ∷ xs) ys = ap (λ zs. x ∷ zs) (take_all xs ys)
-
-drop_all : (xs ys : List ℕ) (b : ℕ) → drop (length xs + b) (xs ++ ys) ≡ drop b ys
-drop_all [] ys b = ap (λ n. drop n ys) (omega arith)
-drop_all (x ∷ xs) ys b = ap (λ n. drop n (x ∷ xs ++ ys)) {x = suc (length xs) + b} {y = suc (length xs + b)} (omega arith) ∙ drop_all xs ys b
-
-piece : (Rs : List (List ℕ)) (k : ℕ) → k < length Rs → take (length (get_or Rs k [])) (drop (before k Rs) (gather (λ r. r) Rs)) ≡ get_or Rs k []
-unfolding before gather
+piece : (Rs : List (List ℕ)) (k : ℕ) → k < length Rs → take (length (get_or Rs k [])) (drop (before k Rs) (flat_map (λ r. r) Rs)) ≡ get_or Rs k []
+unfolding before
 piece [] k l = absurd (omega arith)
-piece (r ∷ Rs) zero l = take_all r (gather (λ r. r) Rs)
-piece (r ∷ Rs) (suc k) l = ap (take (length (get_or Rs k []))) (drop_all r (gather (λ r. r) Rs) (before k Rs)) ∙ piece Rs k (omega arith)
+piece (r ∷ Rs) zero l = take_at r (flat_map (λ r. r) Rs) (length r) refl
+piece (r ∷ Rs) (suc k) l = ap (take (length (get_or Rs k []))) (drop-append-add r (flat_map (λ r. r) Rs) (before k Rs)) ∙ piece Rs k (omega arith)
 
 before_more : (Rs : List (List ℕ)) (k : ℕ) → k < length Rs → before (suc k) Rs ≡ before k Rs + length (get_or Rs k [])
 unfolding before
@@ -52,19 +44,10 @@ before_more [] k l = absurd (omega arith)
 before_more (r ∷ Rs) zero l = omega arith
 before_more (r ∷ Rs) (suc k) l = omega (arith, before_more Rs k (omega arith))
 
-before_all : (Rs : List (List ℕ)) → before (length Rs) Rs ≡ length (gather (λ r. r) Rs)
-unfolding before gather
+before_all : (Rs : List (List ℕ)) → before (length Rs) Rs ≡ length (flat_map (λ r. r) Rs)
+unfolding before
 before_all [] = refl
-before_all (r ∷ Rs) = omega (arith, before_all Rs, append_length r (gather (λ r. r) Rs))
-
-map_from : {X : Type 0} (f : ℕ → X) (d : X) (t i k : ℕ) → k < t → get_or (map f (from i t)) k d ≡ f (i + k)
-map_from f d zero i k l = absurd (omega arith)
-map_from f d (suc t) i zero l = ap f (omega arith)
-map_from f d (suc t) i (suc k) l = map_from f d t (suc i) k (omega arith) ∙ ap f (omega arith)
-
-from_length : (t i : ℕ) → length (from i t) ≡ t
-from_length zero i = refl
-from_length (suc t) i = ap suc (from_length t (suc i))
+before_all (r ∷ Rs) = omega (arith, before_all Rs, length-append r (flat_map (λ r. r) Rs))
 
 -- ## The image
 
@@ -79,7 +62,7 @@ module _ (W : Work) where
   nodes_from = suc_from W.top 0
 
   runs_length : length Rs ≡ W.top
-  runs_length = map_length (λ n. written (handed_out W n)) (nodes_of W) ∙ ap length nodes_from ∙ from_length W.top 1
+  runs_length = length-map (nodes_of W) (λ n. written (handed_out W n)) ∙ ap length nodes_from ∙ from_length W.top 1
 
   run_at : (k : ℕ) → k < W.top → get_or Rs k [] ≡ written (handed_out W (suc k))
   run_at k l = ap (λ ns. get_or (map (λ n. written (handed_out W n)) ns) k []) nodes_from ∙ map_from (λ n. written (handed_out W n)) [] W.top 1 k l ∙ ap (λ n. written (handed_out W n)) {x = 1 + k} {y = suc k} (omega arith)
@@ -95,28 +78,24 @@ module _ (W : Work) where
   offset_is : (k : ℕ) → k ≤ W.top → offset ws k ≡ W.top + 3 + before k Rs
   unfolding words_out before
   offset_is zero l = omega arith
-  offset_is (suc k) l = ap (λ n. get_or (words_out W) n 0) {x = suc k + 2} {y = suc (suc (suc k))} (omega arith) ∙ (unfold words_out in (append_below (ends (W.top + 3) Rs) (gather (λ r. r) Rs) k 0 (omega (arith, ends_length Rs (W.top + 3), runs_length))))
+  offset_is (suc k) l = ap (λ n. get_or (words_out W) n 0) {x = suc k + 2} {y = suc (suc (suc k))} (omega arith) ∙ (unfold words_out in (get_or_append_left (ends (W.top + 3) Rs) (flat_map (λ r. r) Rs) 0 k (omega (arith, ends_length Rs (W.top + 3), runs_length))))
       ∙ ends_at Rs (W.top + 3) k (omega (arith, runs_length))
 
   words_length : length ws ≡ W.top + 3 + before W.top Rs
   unfolding words_out
-  words_length = sums (length (ends (W.top + 3) Rs ++ gather (λ r. r) Rs)) (length (ends (W.top + 3) Rs)) (length (gather (λ r. r) Rs)) W.top (before W.top Rs)
-      (append_length (ends (W.top + 3) Rs) (gather (λ r. r) Rs)) (ends_length Rs (W.top + 3) ∙ runs_length) (sym (before_all Rs) ∙ ap (λ n. before n Rs) runs_length)
-    where
-      sums : (a b c t d : ℕ) → a ≡ b + c → b ≡ t → c ≡ d → suc (suc (suc a)) ≡ t + 3 + d
-      sums a b c t d p q r = omega arith
+  words_length = omega (arith, length-append (ends (W.top + 3) Rs) (flat_map (λ r. r) Rs), ends_length Rs (W.top + 3) ∙ runs_length, sym (before_all Rs) ∙ ap (λ n. before n Rs) runs_length)
 
-  pub words_count : length (words_out W) ≡ W.top + 3 + length (gather (λ r. r) (runs_out W))
+  pub words_count : length (words_out W) ≡ W.top + 3 + length (flat_map (λ r. r) (runs_out W))
   words_count = words_length ∙ ap (λ n. W.top + 3 + n) (ap (λ n. before n Rs) (sym runs_length) ∙ before_all Rs)
 
   step : (k : ℕ) → k < W.top → before (suc k) Rs ≡ before k Rs + length (get_or Rs k [])
   step k l = before_more Rs k (omega (arith, runs_length))
 
   -- past the header
-  drop_header : (b : ℕ) → drop (W.top + 3 + b) ws ≡ drop b (gather (λ r. r) Rs)
+  drop_header : (b : ℕ) → drop (W.top + 3 + b) ws ≡ drop b (flat_map (λ r. r) Rs)
   unfolding words_out
-  drop_header b = ap (λ n. drop n (W.top ∷ count_out W ∷ (W.top + 3) ∷ (ends (W.top + 3) Rs ++ gather (λ r. r) Rs))) {x = W.top + 3 + b} {y = suc (suc (suc (length (ends (W.top + 3) Rs) + b)))} (omega (arith, ends_length Rs (W.top + 3), runs_length))
-      ∙ drop_all (ends (W.top + 3) Rs) (gather (λ r. r) Rs) b
+  drop_header b = ap (λ n. drop n (W.top ∷ count_out W ∷ (W.top + 3) ∷ (ends (W.top + 3) Rs ++ flat_map (λ r. r) Rs))) {x = W.top + 3 + b} {y = suc (suc (suc (length (ends (W.top + 3) Rs) + b)))} (omega (arith, ends_length Rs (W.top + 3), runs_length))
+      ∙ drop-append-add (ends (W.top + 3) Rs) (flat_map (λ r. r) Rs) b
 
   run_read : (k : ℕ) → k < W.top → run ws (suc k) ≡ get_or Rs k []
   run_read k l = run_is ws k (omega (arith, top_is)) ∙ ap (λ n. take n (drop (offset ws k) ws)) {x = offset ws (suc k) - offset ws k} {y = length (get_or Rs k [])} (omega (arith, offset_is k (omega arith), offset_is (suc k) (omega arith), step k l))
@@ -128,21 +107,12 @@ module _ (W : Work) where
   total_read : (k : ℕ) → k ≤ W.top → total ws k ≡ sum_of (map (λ n. length (handed_out W n)) (from 1 k))
   total_read zero l = refl
   total_read (suc k) l =
-      one (total ws k) (sum_of (map (λ n. length (handed_out W n)) (from 1 k))) (length (clauses (run ws (suc k)))) (length (handed_out W (suc k))) (total_read k (omega arith)) (ap length (clauses_read k l))
+      omega (arith, total_read k (omega arith), ap length (clauses_read k l))
       ∙ sym (sum_more k 1 ∙ ap (λ m. sum_of (map (λ n. length (handed_out W n)) (from 1 k)) + length (handed_out W m)) {x = 1 + k} {y = suc k} (omega arith))
     where
-      one : (a b c d : ℕ) → a ≡ b → c ≡ d → a + c ≡ b + d
-      one a b c d p q = omega arith
-
       sum_more : (t i : ℕ) → sum_of (map (λ n. length (handed_out W n)) (from i (suc t))) ≡ sum_of (map (λ n. length (handed_out W n)) (from i t)) + length (handed_out W (i + t))
-      sum_more zero i = next (length (handed_out W i)) (length (handed_out W (i + 0))) (ap (λ n. length (handed_out W n)) (omega arith))
-        where
-          next : (a b : ℕ) → a ≡ b → a + 0 ≡ 0 + b
-          next a b p = omega arith
-      sum_more (suc t) i = last_one (length (handed_out W i)) _ _ _ _ (sum_more t (suc i)) (ap (λ n. length (handed_out W n)) {x = suc i + t} {y = i + suc t} (omega arith))
-        where
-          last_one : (a b c d e : ℕ) → b ≡ c + d → d ≡ e → a + b ≡ a + c + e
-          last_one a b c d e p q = omega arith
+      sum_more zero i = omega (arith, ap (λ n. length (handed_out W n)) {x = i} {y = i + 0} (omega arith))
+      sum_more (suc t) i = omega (arith, sum_more t (suc i), ap (λ n. length (handed_out W n)) {x = suc i + t} {y = i + suc t} (omega arith))
 
   module _ (small : W.top ≤ 1023) (zero_out : handed_out W 0 ≡ (1 ∷ []) ∷ []) where
     network_read : (n : ℕ) → n ≤ W.top → taken_in ws n ≡ handed_out W n

@@ -2,11 +2,11 @@
 use Rattle.std.proofs.Common.{◌≡◌, ℕ, ◌≤◌, not, List, [], ◌∷◌, length, sym, ◌∙◌, subst, ⊎_elim, arith}
 use Rattle.std.proofs.lemmas.Bool.{and_parts, not-true}
 use Rattle.network.specs.Lists.{In}
-use Rattle.rules.specs.Store.{live_clauses, index_off}
+use Rattle.rules.specs.Store.{index_off}
 use Rattle.rules.specs.Lawful.{Lawful}
 use Rattle.rules.specs.Work.{Work, storing, own_of, nodes_of}
 use Rattle.rules.specs.Const.{const_node}
-use Rattle.rules.specs.Bve.{cost, all_resolvents, passed_over, given_up}
+use Rattle.rules.specs.Bve.{all_resolvents, passed_over, given_up}
 use Rattle.rules.specs.Turns.{Turn, turns, const_turns}
 use Rattle.rules.specs.Sizes.{WordsSuffice}
 use Rattle.rules.proofs.Lawful.{own_few}
@@ -33,17 +33,12 @@ marks_few W L t i l =
     let m = const_met W L t i in
     subst (λ r. length (own_of t.before l) ≤ r) m.1 (own_few t.before.store m.0 l)
 
-both : (a b c : ℕ) → a ≤ b → b ≤ c → a ≤ c
-both a b c p q = omega arith
-
 pub words_suffice : WordsSuffice
 words_suffice = record {
   const = λ W. omega arith;
   bve = λ W. omega arith;
   marks = marks_few;
-  resolvents = λ W L t i e. both (length (all_resolvents t.before.store t.at)) (live_clauses t.before.store) W.store.room
-      (both (length (all_resolvents t.before.store t.at)) (cost t.before.store t.at) (live_clauses t.before.store) (sizes_small.few t.before t.at e) (sizes_small.costs W L t i))
-      (sizes_small.lives W L t i);
+  resolvents = λ W L t i e. omega (arith, sizes_small.few t.before t.at e, sizes_small.costs W L t i, sizes_small.lives W L t i);
   short = λ W n e. (kept_few W n (not-true (given_up W n (all_resolvents W.store n)) (and_parts (not (passed_over W n)) (not (given_up W n (all_resolvents W.store n))) e).1)).0;
-  costs = λ W L t i. both (cost t.before.store t.at) (live_clauses t.before.store) W.store.room (sizes_small.costs W L t i) (sizes_small.lives W L t i);
+  costs = λ W L t i. omega (arith, sizes_small.costs W L t i, sizes_small.lives W L t i);
 }

@@ -1,7 +1,7 @@
 -- bve_simplify: a node that costs no more than it gives is replaced by its resolvents (bounded variable elimination).
 -- Assumes nothing.
-use Rattle.std.specs.Prelude.{ℕ, zero, suc, ◌+◌, ◌*◌, Bool, cond, not, ◌||◌, List, [], ◌∷◌, ◌++◌, map, length, filter, ◌==◌, nat_lt}
-use Rattle.network.specs.Lists.{any_of, gather, listed}
+use Rattle.std.specs.Prelude.{ℕ, zero, suc, ◌+◌, ◌*◌, Bool, cond, not, ◌||◌, List, [], ◌∷◌, ◌++◌, map, length, filter, ◌==◌, nat_lt, flat_map, option_to_list}
+use Rattle.std.specs.List.{list_any}
 use Rattle.network.specs.Resolution.{resolve}
 use Rattle.network.specs.Lemmas.{lemmas}
 use Rattle.rules.specs.Store.{Ref, live, dead, Meaning, is_at, up_to, count, clause_at, index_on}
@@ -14,7 +14,7 @@ referred_clause M dead = []
 
 -- the resolvents upon p of the clauses Cs, which have p, with those that the refs Rs are to
 unfoldable pub resolvents : Meaning → ℕ → List (List ℕ) → List Ref → List (List ℕ)
-resolvents M p Cs Rs = gather (λ C. gather (λ R. listed (resolve p C (referred_clause M R))) Rs) Cs
+resolvents M p Cs Rs = flat_map (λ C. flat_map (λ R. option_to_list (resolve p C (referred_clause M R))) Rs) Cs
 
 -- the resolvents upon n: own(2n) with uses(2n + 1), then own(2n + 1) with uses(2n)
 unfoldable pub all_resolvents : Meaning → ℕ → List (List ℕ)
@@ -30,7 +30,7 @@ cost M n = use_count M n + length (M.own (2 * n)) + length (M.own (2 * n + 1))
 
 -- which places of own l are uses of n
 abbrev pub use_marks : Meaning → ℕ → ℕ → List Bool
-use_marks M n l = map (λ i. any_of (is_at l i) (M.uses (2 * n)) || any_of (is_at l i) (M.uses (2 * n + 1))) (up_to (length (M.own l)))
+use_marks M n l = map (λ i. list_any (is_at l i) (M.uses (2 * n)) || list_any (is_at l i) (M.uses (2 * n + 1))) (up_to (length (M.own l)))
 
 -- the store without the uses of n
 abbrev pub uses_cleared : ℕ → Work → Meaning
@@ -58,7 +58,7 @@ passed_over W n = W.frozen n || cost W.store n == 0 || nat_lt highest_cost (cost
 
 -- the elimination is given up: a resolvent is too long, or there are more than the cost
 abbrev pub given_up : Work → ℕ → List (List ℕ) → Bool
-given_up W n Rs = any_of (λ R. nat_lt greatest_length (length R)) Rs || nat_lt (cost W.store n) (length Rs)
+given_up W n Rs = list_any (λ R. nat_lt greatest_length (length R)) Rs || nat_lt (cost W.store n) (length Rs)
 
 -- n is taken out unless that is given up
 abbrev pub attempted : ℕ → List (List ℕ) → Work → Work

@@ -1,7 +1,6 @@
 -- Start, the calls on a work with what each answers, and the image that is handed out.
 -- Assumes nothing.
-use Rattle.std.specs.Prelude.{ℕ, suc, ◌+◌, ◌-◌, ◌*◌, ◌/◌, Bool, false, cond, List, [], ◌∷◌, ◌++◌, map, length, Some, None, Ok, Err, Option, Result, nat_le, slice_index_or}
-use Rattle.network.specs.Lists.{gather}
+use Rattle.std.specs.Prelude.{ℕ, suc, ◌+◌, ◌-◌, ◌*◌, ◌/◌, Bool, false, cond, List, [], ◌∷◌, ◌++◌, map, length, Some, None, Ok, Err, Option, Result, nat_le, slice_index_or, flat_map}
 use Rattle.network.specs.Networks.{Network}
 use Rattle.network.specs.Values.{nothing, unit_of}
 use Rattle.image.specs.Faults.{fault, tested, ◌then◌}
@@ -20,7 +19,7 @@ use Rattle.rules.specs.Subsume.{subsume_simplify}
 
 -- the clauses of an image, node 0's first, then all nodes rising
 unfoldable pub clauses_in : List ℕ → List (List ℕ)
-clauses_in ws = gather (taken_in ws) (up_to (suc (top ws)))
+clauses_in ws = flat_map (taken_in ws) (up_to (suc (top ws)))
 
 -- the work before its first entry, of the image ws with the frozen flags fs
 abbrev pub begun : List ℕ → List Bool → Meaning → Work
@@ -67,7 +66,7 @@ count_out W = sum_of (map (λ n. length (handed_out W n)) (nodes_of W))
 
 -- the image handed out: the header, then the runs
 unfoldable pub words_out : Work → List ℕ
-words_out W = (W.top ∷ count_out W ∷ (W.top + 3) ∷ ends (W.top + 3) (runs_out W)) ++ gather (λ r. r) (runs_out W)
+words_out W = (W.top ∷ count_out W ∷ (W.top + 3) ∷ ends (W.top + 3) (runs_out W)) ++ flat_map (λ r. r) (runs_out W)
 
 -- ## Calls: each gives the work after it and its answer
 

@@ -1,7 +1,7 @@
 -- What a store of clauses means, and what each change makes of that.
 -- Assumes nothing.
-use Rattle.std.specs.Prelude.{ℕ, zero, suc, ◌+◌, ◌-◌, Bool, true, false, cond, not, ◌&&◌, List, [], ◌∷◌, ◌++◌, map, length, take, drop, filter, ◌==◌, nat_lt, slice_index_or, slice_set}
-use Rattle.network.specs.Lists.{any_of, gather}
+use Rattle.std.specs.Prelude.{ℕ, zero, suc, ◌+◌, ◌-◌, Bool, true, false, cond, not, ◌&&◌, List, [], ◌∷◌, ◌++◌, map, length, filter, ◌==◌, nat_lt, slice_index_or, slice_set, flat_map}
+use Rattle.std.specs.List.{list_any, swap_remove, remove as removed_at}
 use Rattle.network.specs.Clauses.{without, has, last, front, well_formed}
 
 -- what a list of uses refers to: place i of the clauses whose last literal is l, or a clause that is there no more
@@ -28,7 +28,7 @@ abbrev pub is_dead : Ref → Bool
 is_dead (live k j) = false
 is_dead dead = true
 
--- so many numbers from i on
+-- so many numbers from i on, by successors, as the proofs count (the library's `range_with_len` adds 1)
 abbrev pub from : ℕ → ℕ → List ℕ
 from i zero = []
 from i (suc n) = i ∷ from (suc i) n
@@ -41,12 +41,12 @@ up_to n = from 0 n
 abbrev pub literals : List ℕ
 literals = up_to 2048
 
--- the sum
+-- the sum, head by head, as the proofs count (the library's `sum` is a fold)
 abbrev pub sum_of : List ℕ → ℕ
 sum_of [] = 0
 sum_of (n ∷ ns) = n + sum_of ns
 
--- how many pass the test
+-- how many pass the test, head by head (the library's `count_by` is a fold)
 unfoldable pub how_many : {X : Type 0} → (X → Bool) → List X → ℕ
 how_many p [] = 0
 how_many p (x ∷ xs) = cond (p x) (suc (how_many p xs)) (how_many p xs)
@@ -70,14 +70,6 @@ clause_at M l i = slice_index_or (M.own l) i []
 -- f with the value x at l
 unfoldable pub changed : {X : Type 0} → (ℕ → X) → ℕ → X → ℕ → X
 changed f l x k = cond (k == l) x (f k)
-
--- the list without its place i, to which the last element comes
-unfoldable pub swap_out : {X : Type 0} → X → ℕ → List X → List X
-swap_out d i xs = take (length xs - 1) (slice_set xs i (slice_index_or xs (length xs - 1) d))
-
--- the list without its place i, order kept
-unfoldable pub close_up : {X : Type 0} → ℕ → List X → List X
-close_up i xs = take i xs ++ drop (suc i) xs
 
 -- ## Effects
 
@@ -108,7 +100,7 @@ unfoldable pub removed : ℕ → ℕ → Meaning → Meaning
 removed l i M = record {
   room = M.room;
   indexed = M.indexed;
-  own = changed M.own l (swap_out [] i (M.own l));
+  own = changed M.own l (swap_remove (M.own l) i []);
   uses = λ x. map (moved_ref l (length (M.own l) - 1) i) (filter (λ r. not (is_at l i r)) (M.uses x));
   dead_clauses = M.dead_clauses;
 }
@@ -120,14 +112,14 @@ after_retired l i (live k j) = cond (k == l) (cond (j == i) dead (cond (nat_lt i
 
 -- some list of uses has place i of own l
 abbrev pub referred : Meaning → ℕ → ℕ → Bool
-referred M l i = any_of (λ x. any_of (is_at l i) (M.uses x)) literals
+referred M l i = list_any (λ x. list_any (is_at l i) (M.uses x)) literals
 
 -- place i of own l goes, order kept; lists of uses that have it keep it as dead
 unfoldable pub retired : ℕ → ℕ → Meaning → Meaning
 retired l i M = record {
   room = M.room;
   indexed = M.indexed;
-  own = changed M.own l (close_up i (M.own l));
+  own = changed M.own l (removed_at (M.own l) i);
   uses = λ x. map (after_retired l i) (M.uses x);
   dead_clauses = cond (referred M l i) (suc M.dead_clauses) M.dead_clauses;
 }
@@ -151,15 +143,19 @@ unfoldable pub places : ℕ → ℕ → ℕ → List (List ℕ) → List Ref
 places x l i [] = []
 places x l i (C ∷ Cs) = with_first (has x (front C)) (live l i) (places x l (suc i) Cs)
 
--- the uses of every literal are filled, by nodes rising, unless an index stands
-unfoldable pub index_on : Meaning → Meaning
-index_on M = cond M.indexed M (record {
+-- the uses of every literal are filled, by nodes rising
+abbrev pub filled : Meaning → Meaning
+filled M = record {
   room = M.room;
   indexed = true;
   own = M.own;
-  uses = λ x. gather (λ l. places x l 0 (M.own l)) literals;
+  uses = λ x. flat_map (λ l. places x l 0 (M.own l)) literals;
   dead_clauses = 0;
-})
+}
+
+-- the same, unless an index stands
+unfoldable pub index_on : Meaning → Meaning
+index_on M = cond M.indexed M (filled M)
 
 -- the uses are dropped
 unfoldable pub index_off : Meaning → Meaning

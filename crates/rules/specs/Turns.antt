@@ -1,9 +1,9 @@
 -- The turns that nodes have in a pass, and the entries that a pass makes.
 -- Assumes nothing.
-use Rattle.std.specs.Prelude.{◌≡◌, ℕ, zero, suc, ◌+◌, ◌*◌, ◌<◌, Bool, true, cond, not, ◌&&◌, List, [], ◌∷◌, ◌++◌, length, Some, None, ◌==◌, nat_lt}
+use Rattle.std.specs.Prelude.{◌≡◌, ℕ, zero, suc, ◌+◌, ◌*◌, ◌<◌, Bool, true, cond, not, ◌&&◌, List, [], ◌∷◌, ◌++◌, length, Some, None, ◌==◌, nat_lt, flat_map}
 use Rattle.network.specs.Assignments.{node}
 use Rattle.network.specs.Clauses.{well_formed}
-use Rattle.network.specs.Lists.{In, gather}
+use Rattle.network.specs.Lists.{In}
 use Rattle.network.specs.Values.{simplified}
 use Rattle.network.specs.Lemmas.{lemmas}
 use Rattle.rules.specs.Store.{Ref, live, dead, Meaning, up_to, kept_clauses, clause_at, index_on, index_off, retire, shorten}
@@ -55,7 +55,7 @@ node_entries n W = judged_entries (own_of W (2 * n)) W ++ judged_entries (own_of
 
 -- the entries of a const_simplify
 abbrev pub const_entries : Work → List Entry
-const_entries W = gather (λ t. node_entries t.at t.before) (const_turns W)
+const_entries W = flat_map (λ t. node_entries t.at t.before) (const_turns W)
 
 -- ## bve_simplify
 
@@ -83,7 +83,7 @@ attempt_entries n W = cond (takes_out n W) (entries (lemmas (all_resolvents W.st
 
 -- the entries of a bve_simplify
 abbrev pub bve_entries : Work → List Entry
-bve_entries W = gather (λ t. attempt_entries t.at t.before) (bve_turns W)
+bve_entries W = flat_map (λ t. attempt_entries t.at t.before) (bve_turns W)
 
 -- ## subsume_simplify
 

@@ -1,9 +1,10 @@
 -- A work: a network under simplification; and its two ways of changing, by entering clauses and by clearing them.
 -- Assumes nothing.
 use Rattle.std.specs.Prelude.{ℕ, zero, suc, ◌+◌, ◌-◌, ◌*◌, Bool, true, false, cond, List, [], ◌∷◌, ◌++◌, map, length, replicate, Some, None, Option, nat_lt, slice_index_or}
+use Rattle.std.specs.List.{swap_remove}
 use Rattle.network.specs.Assignments.{node}
 use Rattle.network.specs.Values.{Values, with_value, sign, simplified}
-use Rattle.rules.specs.Store.{Meaning, up_to, swap_out, enter, removed}
+use Rattle.rules.specs.Store.{Meaning, up_to, enter, removed}
 
 -- the nodes are 0 to top; out: the nodes taken out, the last first
 pub record Work : Type 0 where
@@ -70,7 +71,7 @@ unfoldable pub cleared : ℕ → ℕ → ℕ → List Bool → Meaning → Meani
 cleared zero l i marks M = M
 cleared (suc f) l i marks M =
     cond (nat_lt i (length (M.own l)))
-    (cond (slice_index_or marks i false) (cleared f l i (swap_out false i marks) (removed l i M)) (cleared f l (suc i) marks M))
+    (cond (slice_index_or marks i false) (cleared f l i (swap_remove marks i false) (removed l i M)) (cleared f l (suc i) marks M))
     M
 
 -- the marked clauses of own l go; those past the marks are not marked

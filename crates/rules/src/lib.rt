@@ -13,45 +13,35 @@ ghost use Rattle.rules.specs.Sizes.{SizesSmall, WordsSuffice};
 ghost use Rattle.rules.specs.Theorem.{AlwaysRight, CallsLeadOn, ComparedAlike, Refusals, StartsWell};
 
 // The rules at small cases.
-pub fn sample_cases() -> u8
+pub fn sample_cases()
     ensures { Samples }
-{
-    0
-}
+{}
 
 // Whole runs at small networks, refusals among them; and each pass does its own work and no other's.
-pub fn sample_runs() -> u8
+pub fn sample_runs()
     ensures runs { SampleRuns }
     ensures apart { PassesApart }
-{
-    0
-}
+{}
 
 // Every change of a store and every pass keeps its meaning lawful, and a lawful store bounds what a call has to hold, so that the
 // working words suffice.
-pub fn store_laws() -> u8
+pub fn store_laws()
     ensures changes { ChangesLawful }
     ensures passes { PassesLawful }
     ensures sizes { SizesSmall }
     ensures working { WordsSuffice }
-{
-    0
-}
+{}
 
 // What is handed out, after any calls, admits the settings that what was taken in admits, and compares with another as that does;
 // nodes taken out are gone, and what asserts would say never fails.
-pub fn simplification() -> u8
+pub fn simplification()
     ensures starts { StartsWell }
     ensures right { AlwaysRight }
     ensures compared { ComparedAlike }
-{
-    0
-}
+{}
 
 // Calls lead from one work to the next, and a refused one changes nothing.
-pub fn call_laws() -> u8
+pub fn call_laws()
     ensures leads { CallsLeadOn }
     ensures refusals { Refusals }
-{
-    0
-}
+{}

@@ -1,7 +1,7 @@
 -- A clause retired in a scanned store. Assumes nothing.
 use Rattle.std.proofs.Common.{◌≡◌, ℕ, zero, suc, ◌+◌, ◌-◌, ◌*◌, ◌<◌, ◌≤◌, Bool, true, false, cond, not, ◌&&◌, eqb, ◌⊎◌, List, [], ◌∷◌, ◌++◌, map, length, get_or, drop, filter, sym, refl, ap, ◌∙◌, subst, inl, inr, arith}
 use mathlib.Core.Path.{fun_ext}
-use Rattle.std.specs.List.{AllByRecursion}
+use Rattle.std.specs.List.{AllByRecursion, list_any}
 use Rattle.std.proofs.lemmas.Bool.{cases_lt, cases_eq, cases_Bool, cond-true, cond-false, eq-eqb, ne_eqb, or_from, or_left, or_right}
 use Rattle.std.proofs.lemmas.List.{length_push, length-map, get_or-map}
 use Rattle.std.proofs.ByRecursion.{All-get_or, All-from_get_or, All-push, All-weaker, all_kept_by}
@@ -20,7 +20,6 @@ use Rattle.slots.proofs.Slots.{member}
 use Rattle.slots.proofs.Changes.{retired_is}
 use Rattle.scanned.specs.Layout.{node_count, rg, text_at, text_of, was_of, own_of, seq_of, used_of, dead_of, meaning_of, passes, Whole, Sound, At}
 use Rattle.scanned.proofs.Wholes.{own_is, own_none, kept_is}
-use Rattle.network.specs.Lists.{any_of}
 use Rattle.rules.specs.Store.{literals}
 use Rattle.scanned.proofs.Totals.{total_same, total_at, any_literals}
 use Rattle.scanned.proofs.Admits.{seq_is, dead_is, passes_same}
@@ -271,13 +270,13 @@ module _ (room : ℕ) (ix : Bool) (ws : List ℕ) (w : Whole room ix ws) (some :
         un_map [] p q = tt
         un_map (y ∷ ys) p q = (λ e. p.0 (let q0 = q.0 in omega arith), un_map ys p.1 q.1)
 
-    deads : dead_of room vs ≡ cond (any_of (λ k. has (get_or (own_of room ws l) i 0) (used_of room ws k)) literals) (suc (dead_of room ws)) (dead_of room ws)
+    deads : dead_of room vs ≡ cond (list_any (λ k. has (get_or (own_of room ws l) i 0) (used_of room ws k)) literals) (suc (dead_of room ws)) (dead_of room ws)
     deads =
         let p = ll in
         let d1 = dead_is room vs some in
         let d0 = dead_is room ws some in
         let D = dead_of room ws in
-        let U : ℕ → Bool = λ y. any_of (λ k. has y (used_of room ws k)) literals in
+        let U : ℕ → Bool = λ y. list_any (λ k. has y (used_of room ws k)) literals in
         let ux : U (get_or (own_of room ws l) i 0) ≡ any_to 2048 (λ k. has x (used_of room ws k)) = ap U a.1 ∙ sym (any_literals (λ k. has x (used_of room ws k))) in
         elim to [
           | inl q ↦

@@ -1,7 +1,7 @@
 -- Sums over the literals. Assumes nothing.
 use Rattle.std.proofs.Common.{◌≡◌, ℕ, zero, suc, ◌+◌, ◌<◌, ◌≤◌, Bool, true, false, ◌||◌, map, length, sym, refl, ap, ◌∙◌, inl, inr, arith}
+use Rattle.std.specs.List.{list_any}
 use Rattle.std.proofs.lemmas.Bool.{cases_eq}
-use Rattle.network.specs.Lists.{any_of}
 use Rattle.rules.specs.Store.{Meaning, from, literals, sum_of, live_clauses}
 use Rattle.scanned.specs.Sums.{total, any_to}
 
@@ -60,18 +60,18 @@ or_none : (a : Bool) → (a || false) ≡ a
 or_none true = refl
 or_none false = refl
 
-any_snoc : (f : ℕ → Bool) (n i : ℕ) → any_of f (from i (suc n)) ≡ (any_of f (from i n) || f (i + n))
+any_snoc : (f : ℕ → Bool) (n i : ℕ) → list_any f (from i (suc n)) ≡ (list_any f (from i n) || f (i + n))
 any_snoc f zero i = let e : i ≡ i + 0 = omega arith in or_none (f i) ∙ ap f e
 any_snoc f (suc n) i =
     let e : suc i + n ≡ i + suc n = omega arith in
-    ap (λ (b : Bool). f i || b) (any_snoc f n (suc i)) ∙ sym (or_assoc (f i) (any_of f (from (suc i) n)) (f (suc i + n))) ∙ ap (λ (k : ℕ). (f i || any_of f (from (suc i) n)) || f k) e
+    ap (λ (b : Bool). f i || b) (any_snoc f n (suc i)) ∙ sym (or_assoc (f i) (list_any f (from (suc i) n)) (f (suc i + n))) ∙ ap (λ (k : ℕ). (f i || list_any f (from (suc i) n)) || f k) e
 
-any_list : (f : ℕ → Bool) (n : ℕ) → any_to n f ≡ any_of f (from 0 n)
+any_list : (f : ℕ → Bool) (n : ℕ) → any_to n f ≡ list_any f (from 0 n)
 unfolding any_to
 any_list f zero = refl
 any_list f (suc n) =
     let e : n ≡ 0 + n = omega arith in
-    ap (λ (b : Bool). b || f n) (any_list f n) ∙ ap (λ (k : ℕ). any_of f (from 0 n) || f k) e ∙ sym (any_snoc f n 0)
+    ap (λ (b : Bool). b || f n) (any_list f n) ∙ ap (λ (k : ℕ). list_any f (from 0 n) || f k) e ∙ sym (any_snoc f n 0)
 
-pub any_literals : (f : ℕ → Bool) → any_to 2048 f ≡ any_of f literals
+pub any_literals : (f : ℕ → Bool) → any_to 2048 f ≡ list_any f literals
 any_literals f = any_list f 2048

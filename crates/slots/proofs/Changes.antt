@@ -1,15 +1,14 @@
 -- Retiring, shortening and the index, by slots and by the meaning. Assumes nothing.
-use Rattle.std.proofs.Common.{◌≡◌, ℕ, zero, suc, ◌+◌, ◌-◌, ◌<◌, Bool, true, false, cond, eqb, List, [], ◌∷◌, map, length, get_or, set, filter, sym, refl, ap, ◌∙◌, subst, inl, inr, arith}
+use Rattle.std.proofs.Common.{◌≡◌, ℕ, zero, suc, ◌+◌, ◌-◌, ◌<◌, Bool, true, false, cond, eqb, List, [], ◌∷◌, map, length, get_or, set, filter, sym, refl, ap, ◌∙◌, subst, inl, inr, arith, flat_map}
 use mathlib.Core.Path.{fun_ext}
-use Rattle.std.specs.List.{AllByRecursion}
+use Rattle.std.specs.List.{AllByRecursion, list_any, remove}
 use Rattle.std.proofs.lemmas.Bool.{cases_eq, cases_lt, cases_Bool, cond-true, cond-false, eq-eqb, ne_eqb, lt-ltb, le-ltb}
 use Rattle.std.proofs.lemmas.List.{map-append, get_or-map}
 use Rattle.std.proofs.ByRecursion.{All-get_or}
 use Rattle.rings.specs.Rings.{Lacks, Differ, without, drop_at, at}
 use Rattle.rings.proofs.Drops.{at_here, at_else, drop_at_all, drop_at_differ, drop_at_length, drop_at_low, drop_at_high, drop_at_out, drop_at_map}
-use Rattle.network.specs.Lists.{any_of, gather}
 use Rattle.network.specs.Clauses.{last, front, has}
-use Rattle.rules.specs.Store.{live, dead, retired, shortened, index_on, close_up, after_retired, is_at, places, literals}
+use Rattle.rules.specs.Store.{live, dead, retired, shortened, index_on, after_retired, is_at, places, literals}
 use Rattle.slots.specs.Slots.{seek, ref, meant, Kept, filled_by_last}
 use Rattle.slots.proofs.Slots.{same_meaning, map_same, close_same, changed_here, changed_else, seek_lacks, seek_at, seek_kind, member, ref_at, ref_is_here, removed_ref}
 
@@ -36,7 +35,7 @@ fallen_high l i j h =
 
 module _ (own text : ℕ → List ℕ) (k : Kept own text) (l i : ℕ) (h : i < length (own l)) where
   -- a ref to the place is a ref to the slot there
-  at_is : (ys : List ℕ) → any_of (is_at l i) (map (ref own text) ys) ≡ has (get_or (own l) i 0) ys
+  at_is : (ys : List ℕ) → list_any (is_at l i) (map (ref own text) ys) ≡ has (get_or (own l) i 0) ys
   at_is [] = refl
   at_is (y ∷ ys) =
       let ih = at_is ys in
@@ -46,8 +45,8 @@ module _ (own text : ℕ → List ℕ) (k : Kept own text) (l i : ℕ) (h : i < 
       ] in
       cc
 
-  any_same : (f g : ℕ → Bool) (ls : List ℕ) → ((x : ℕ) → f x ≡ g x) → any_of f ls ≡ any_of g ls
-  any_same f g ls e = ap (λ (p : ℕ → Bool). any_of p ls) (fun_ext e)
+  any_same : (f g : ℕ → Bool) (ls : List ℕ) → ((x : ℕ) → f x ≡ g x) → list_any f ls ≡ list_any g ls
+  any_same f g ls e = ap (λ (p : ℕ → Bool). list_any p ls) (fun_ext e)
 
   module _ (own' : ℕ → List ℕ) (owns : (m : ℕ) → own' m ≡ at own l (drop_at i (own l)) m) where
     pub retired_ref : (y : ℕ) → ref own' text y ≡ after_retired l i (ref own text y)
@@ -85,17 +84,17 @@ module _ (own text : ℕ → List ℕ) (k : Kept own text) (l i : ℕ) (h : i < 
     retired_refs [] = refl
     retired_refs (y ∷ ys) = let a = retired_ref y in let b = retired_refs ys in cc
 
-    pub retired_is : (room : ℕ) (ix : Bool) (used : ℕ → List ℕ) (lost lost' : ℕ) → lost' ≡ cond (any_of (λ m. has (get_or (own l) i 0) (used m)) literals) (suc lost) lost → meant room ix own' used text lost' ≡ retired l i (meant room ix own used text lost)
+    pub retired_is : (room : ℕ) (ix : Bool) (used : ℕ → List ℕ) (lost lost' : ℕ) → lost' ≡ cond (list_any (λ m. has (get_or (own l) i 0) (used m)) literals) (suc lost) lost → meant room ix own' used text lost' ≡ retired l i (meant room ix own used text lost)
     unfolding retired
     retired_is room ix used lost lost' e =
         same_meaning room ix _ _ _ _ lost' _
         (λ m.
         elim (cases_eq m l) [
-          | inl q ↦ ap (map text) (owns m ∙ at_here own l (drop_at i (own l)) m q) ∙ drop_at_map text i (own l) ∙ close_same i (map text (own l)) ∙ sym (changed_here (λ (w : ℕ). map text (own w)) l (close_up i (map text (own l))) m q)
-          | inr n ↦ ap (map text) (owns m ∙ at_else own l (drop_at i (own l)) m n) ∙ sym (changed_else (λ (w : ℕ). map text (own w)) l (close_up i (map text (own l))) m n)
+          | inl q ↦ ap (map text) (owns m ∙ at_here own l (drop_at i (own l)) m q) ∙ drop_at_map text i (own l) ∙ close_same i (map text (own l)) ∙ sym (changed_here (λ (w : ℕ). map text (own w)) l (remove (map text (own l)) i) m q)
+          | inr n ↦ ap (map text) (owns m ∙ at_else own l (drop_at i (own l)) m n) ∙ sym (changed_else (λ (w : ℕ). map text (own w)) l (remove (map text (own l)) i) m n)
         ])
         (λ m. retired_refs (used m))
-        (e ∙ ap (λ (b : Bool). cond b (suc lost) lost) (any_same (λ m. has (get_or (own l) i 0) (used m)) (λ m. any_of (is_at l i) (map (ref own text) (used m))) literals (λ m. sym (at_is (used m)))))
+        (e ∙ ap (λ (b : Bool). cond b (suc lost) lost) (any_same (λ m. has (get_or (own l) i 0) (used m)) (λ m. list_any (is_at l i) (map (ref own text) (used m))) literals (λ m. sym (at_is (used m)))))
 
   -- ---- a shorter clause in the same slot
   module _ (text' : ℕ → List ℕ) (v : ℕ) (short : text' (get_or (own l) i 0) ≡ without v (text (get_or (own l) i 0))) (ends : last (text' (get_or (own l) i 0)) ≡ l) where
@@ -162,14 +161,13 @@ refs_of own text n l j (y ∷ ys) h =
       | inr e ↦ ap (map (ref own text)) (cond-false t (y ∷ rest) rest e) ∙ ih ∙ sym (cond-false t (live l j ∷ places n l (suc j) (map text ys)) (places n l (suc j) (map text ys)) e)
     ]
 
-map_gather : {X Y : Type 0} (f : X → Y) (ls : List ℕ) (g : ℕ → List X) (h : ℕ → List Y) → ((l : ℕ) → map f (g l) ≡ h l) → map f (gather g ls) ≡ gather h ls
-unfolding gather
-map_gather f [] g h e = refl
-map_gather f (l ∷ ls) g h e = map-append f (g l) (gather g ls) ∙ (let a = map_gather f ls g h e in let b = e l in cc)
+map_flat_map : {X Y : Type 0} (f : X → Y) (ls : List ℕ) (g : ℕ → List X) (h : ℕ → List Y) → ((l : ℕ) → map f (g l) ≡ h l) → map f (flat_map g ls) ≡ flat_map h ls
+map_flat_map f [] g h e = refl
+map_flat_map f (l ∷ ls) g h e = map-append f (g l) (flat_map g ls) ∙ (let a = map_flat_map f ls g h e in let b = e l in cc)
 
-pub indexed_is : (room : ℕ) (own used used' text : ℕ → List ℕ) (lost : ℕ) → Kept own text → ((m : ℕ) → used' m ≡ gather (λ l. filter (λ x. has m (front (text x))) (own l)) literals) → meant room true own used' text 0 ≡ index_on (meant room false own used text lost)
+pub indexed_is : (room : ℕ) (own used used' text : ℕ → List ℕ) (lost : ℕ) → Kept own text → ((m : ℕ) → used' m ≡ flat_map (λ l. filter (λ x. has m (front (text x))) (own l)) literals) → meant room true own used' text 0 ≡ index_on (meant room false own used text lost)
 unfolding index_on
 indexed_is room own used used' text lost k useds =
     same_meaning room true _ _ _ _ 0 0 (λ l. refl)
-    (λ m. ap (map (ref own text)) (useds m) ∙ map_gather (ref own text) literals (λ l. filter (λ x. has m (front (text x))) (own l)) (λ l. places m l 0 (map text (own l))) (λ l. refs_of own text m l 0 (own l) (λ i h. ref_at own text l i k h ∙ ap (live l) (omega arith))))
+    (λ m. ap (map (ref own text)) (useds m) ∙ map_flat_map (ref own text) literals (λ l. filter (λ x. has m (front (text x))) (own l)) (λ l. places m l 0 (map text (own l))) (λ l. refs_of own text m l 0 (own l) (λ i h. ref_at own text l i k h ∙ ap (live l) (omega arith))))
     refl

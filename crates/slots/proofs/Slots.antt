@@ -1,7 +1,7 @@
 -- Each change of the slots is the change of the meaning. Assumes nothing.
 use Rattle.std.proofs.Common.{◌≡◌, ℕ, zero, suc, ◌+◌, ◌-◌, ◌<◌, Bool, true, false, cond, not, ◌&&◌, eqb, ◌⊎◌, List, [], ◌∷◌, ◌++◌, map, length, get_or, take, set, filter, sym, refl, ap, ◌∙◌, inl, inr, arith}
 use mathlib.Core.Path.{fun_ext}
-use Rattle.std.specs.List.{AllByRecursion}
+use Rattle.std.specs.List.{AllByRecursion, swap_remove, remove}
 use Rattle.std.proofs.lemmas.Bool.{cases_eq, cases_Bool, not_from_true, not_from_false, cond-true, cond-false, eq-eqb, ne_eqb}
 use Rattle.std.proofs.lemmas.List.{map_push, length-map, length-set, get_or-map, get_or-take, get_or-set_same, get_or-set_other, length-take-le, map-set, take-map}
 use Rattle.std.proofs.ByRecursion.{All-get_or, All-from_get_or}
@@ -10,7 +10,7 @@ use Rattle.rings.proofs.Paths.{without_here, without_other}
 use Rattle.rings.proofs.Drops.{at_here, at_else}
 use Rattle.rings.proofs.Holes.{apart_from, differ_from}
 use Rattle.network.specs.Clauses.{last, front, has}
-use Rattle.rules.specs.Store.{Meaning, Ref, live, dead, entered, removed, swap_out, close_up, changed, moved_ref, is_at}
+use Rattle.rules.specs.Store.{Meaning, Ref, live, dead, entered, removed, changed, moved_ref, is_at}
 use Rattle.slots.specs.Slots.{seek, ref, meant, Kept, filled_by_last}
 
 -- a write and a cut
@@ -20,12 +20,11 @@ take_set (suc n) i [] z = refl
 take_set (suc n) zero (x ∷ xs) z = refl
 take_set (suc n) (suc i) (x ∷ xs) z = ap (λ ys. x ∷ ys) (take_set n i xs z)
 
-pub swap_same : {X : Type 0} (d : X) (i : ℕ) (xs : List X) → filled_by_last d i xs ≡ swap_out d i xs
-unfolding swap_out
+pub swap_same : {X : Type 0} (d : X) (i : ℕ) (xs : List X) → filled_by_last d i xs ≡ swap_remove xs i d
 swap_same d i xs = take_set (length xs - 1) i xs (get_or xs (length xs - 1) d)
 
-pub close_same : {X : Type 0} (i : ℕ) (xs : List X) → drop_at i xs ≡ close_up i xs
-unfolding close_up drop_at
+pub close_same : {X : Type 0} (i : ℕ) (xs : List X) → drop_at i xs ≡ remove xs i
+unfolding drop_at
 close_same zero [] = refl
 close_same (suc i) [] = refl
 close_same zero (x ∷ xs) = refl
@@ -278,8 +277,8 @@ module _ (own own' text : ℕ → List ℕ) (k : Kept own text) (l i : ℕ) (h :
       same_meaning room ix _ _ _ _ lost lost
       (λ m.
       elim (cases_eq m l) [
-        | inl q ↦ ap (map text) (owns m ∙ at_here own l (filled_by_last 0 i (own l)) m q) ∙ swap_map text i (own l) h ∙ swap_same [] i (map text (own l)) ∙ sym (changed_here (λ (w : ℕ). map text (own w)) l (swap_out [] i (map text (own l))) m q)
-        | inr n ↦ ap (map text) (owns m ∙ at_else own l (filled_by_last 0 i (own l)) m n) ∙ sym (changed_else (λ (w : ℕ). map text (own w)) l (swap_out [] i (map text (own l))) m n)
+        | inl q ↦ ap (map text) (owns m ∙ at_here own l (filled_by_last 0 i (own l)) m q) ∙ swap_map text i (own l) h ∙ swap_same [] i (map text (own l)) ∙ sym (changed_here (λ (w : ℕ). map text (own w)) l (swap_remove (map text (own l)) i []) m q)
+        | inr n ↦ ap (map text) (owns m ∙ at_else own l (filled_by_last 0 i (own l)) m n) ∙ sym (changed_else (λ (w : ℕ). map text (own w)) l (swap_remove (map text (own l)) i []) m n)
       ])
       (λ m. ap (map (ref own' text)) (useds m) ∙ removed_refs (used m) ∙ ap (λ (w : ℕ). map (moved_ref l (w - 1) i) (filter (λ r. not (is_at l i r)) (map (ref own text) (used m)))) (sym (length-map (own l) text)))
       refl
