@@ -48,7 +48,7 @@ pub fn ordered_subsume_execpt_one(a: &[u32], b: &[u32]) -> (bool, Option<Lit>)
             if noted.is_some() {
                 return (false, None);
             }
-            noted = Some(Lit::from_word(c));
+            noted = Some(Lit::from(c));
             i += 1;
         } else if c < *d {
             return (false, None);

@@ -34,7 +34,7 @@ loop-d-preserved c =
       | else-c-d+then-c-d-2+else-is_some w ↦
           let e = fits_opposite a b l.i l.d-index (omega arith) (omega arith) o w.if-c-d.false w.if-c-d-2.true in
           let f = noted_first (get_or a l.i 0) l.noted (λ p. fits_from p (drop (l.i + 1) a) (drop (l.d-index + 1) b)) (sym w.is_some.ensures ∙ w.if-is_some.false) in
-          let g : word_of c.if-c-d.noted ≡ Some (get_or a l.i 0) = ap word_of w.noted-is ∙ ap Some w.from_word.ensures in
+          let g : word_of c.if-c-d.noted ≡ Some (get_or a l.i 0) = ap word_of w.noted-is ∙ ap Some w.from.ensures in
           (omega (arith, w.i-is), cc)
       | else-c-d+else-c-d-2+else-c-d-3 w ↦
           let e = fits_past a b l.i l.d-index (omega arith) (omega arith) o w.if-c-d.false w.if-c-d-2.false (omega (arith, w.if-c-d.false, w.if-c-d-3.false)) in

@@ -16,15 +16,15 @@ returns-then-is_true c =
     let l = c.loop-l in
     room_enough (omega arith)
     (sofar_fails l.invariant.1 (length C) (omega arith)
-    (simp_true V C l.l-index (told c.value_of-value.result.byte) (omega arith) (c.value_of-value.ensures ∙ ap (literal V) c.from_word.ensures) (sym c.is_true.ensures ∙ c.if-is_true.true)))
+    (simp_true V C l.l-index (told c.value_of-value.result) (omega arith) (c.value_of-value.ensures ∙ ap (literal V) c.from.ensures) (sym c.is_true.ensures ∙ c.if-is_true.true)))
 
 pub loop-l-preserved : goal.loop-l-preserved
 loop-l-preserved c =
     let C = c.args.clause.now in
     let V = values_of c.args.values.now in
     let l = c.loop-l in
-    let o = told c.value_of-value.result.byte in
-    let says : o ≡ literal V (get_or C l.l-index 0) = c.value_of-value.ensures ∙ ap (literal V) c.from_word.ensures in
+    let o = told c.value_of-value.result in
+    let says : o ≡ literal V (get_or C l.l-index 0) = c.value_of-value.ensures ∙ ap (literal V) c.from.ensures in
     let next = simplified V (drop (l.l-index + 1) C) in
     elim c.if-not-is_false.branch [
       | then-not-is_false w ↦ (
