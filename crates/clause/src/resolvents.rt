@@ -56,30 +56,26 @@ pub fn ordered_resolvent(a: &[u32], b: &[u32], pivot: Lit, out: &mut [u32]) -> O
         return None;
     }
     let (x, y) = (pivot.word, pivot.opposite().word);
-    let (mut left, mut right) = (a, b);
     let mut merged = Merged { out, len: 0 };
-    while let ([c, after_c @ ..], [d, after_d @ ..]) = (left, right) {
+    let mut rest = b;
+    for c in a {
         if *c == x {
-            left = after_c;
-        } else if *d == y {
-            right = after_d;
-        } else {
-            let l = if c < d {
-                left = after_c;
-                *c
-            } else if d < c {
-                right = after_d;
-                *d
-            } else {
-                left = after_c;
-                right = after_d;
-                *c
-            };
-            merged.push(l)?;
+            continue;
         }
+        while let [d, after_d @ ..] = rest
+            && (*d == y || d < c)
+        {
+            if *d != y {
+                merged.push(*d)?;
+            }
+            rest = after_d;
+        }
+        if let [d, after_d @ ..] = rest
+            && d == c
+        {
+            rest = after_d;
+        }
+        merged.push(*c)?;
     }
-    if left.is_empty() {
-        return merged.finish(right, y);
-    }
-    merged.finish(left, x)
+    merged.finish(rest, y)
 }

@@ -10,8 +10,8 @@ returns-in_err-push-clause-added c =
     let l = get_or c.args.src.now v.l-index 0 in
     let rest = without c.args.literal (drop (v.l-index + 1) c.args.src.now) in
     rw c.from_residual.ensures
-        (merging_fails l rest (merging_of (l ∷ rest) (without_kept c.args.literal c.args.src.now v.l-index (omega arith) c.if-l-literal.true) v.invariant.1)
-        (c.args.self.now.len + length c.args.src.now) c.push.new.self.out.now (omega arith) c.in_err-push.ensures.added)
+    (merging_fails l rest (merging_of (l ∷ rest) (without_kept c.args.literal c.args.src.now v.l-index (omega arith) c.if-l-literal.true) v.invariant.so_far)
+    (c.args.self.now.len + length c.args.src.now) c.push.new.self.out.now (omega arith) c.in_err-push.ensures.added)
 
 pub loop-l-preserved : goal.loop-l-preserved
 loop-l-preserved c =
@@ -22,14 +22,23 @@ loop-l-preserved c =
     elim c.if-l-literal.branch [
       | then-l-literal+in_ok-push w ↦
           rw w.self-is
-              (omega (arith, w.in_ok-push.ensures.added.1),
-              merging_more l rest (merging_of (l ∷ rest) (without_kept c.args.literal src v.l-index (omega arith) w.if-l-literal.true) v.invariant.1)
-              w.push.new.self (omega arith) w.in_ok-push.ensures.same_reference w.in_ok-push.ensures.added)
+              (record {
+                same_reference = cc (w.in_ok-push.ensures.same_reference);
+                few = omega (arith, w.in_ok-push.ensures.added.1);
+                so_far =
+                    merging_more l rest (merging_of (l ∷ rest) (without_kept c.args.literal src v.l-index (omega arith) w.if-l-literal.true) v.invariant.so_far)
+                    w.push.new.self (omega (arith, v.invariant.so_far.same_length)) w.in_ok-push.ensures.added;
+              })
       | else-l-literal w ↦
-          rw w.self-is (omega arith, merging_of rest (without_lost c.args.literal src v.l-index (omega arith) w.if-l-literal.false) v.invariant.1)
+          rw w.self-is
+              (record {
+                same_reference = v.invariant.same_reference;
+                few = omega arith;
+                so_far = merging_of rest (without_lost c.args.literal src v.l-index (omega arith) w.if-l-literal.false) v.invariant.so_far;
+              })
     ]
 
 pub returns-clause-added : goal.returns-clause-added
 returns-clause-added c =
     let v = c.loop-l in
-    merging_ends (c.args.self.now.len + length c.args.src.now) (merging_of [] (without_end c.args.literal c.args.src.now v.l-index (omega arith)) v.invariant.1)
+    merging_ends (c.args.self.now.len + length c.args.src.now) (merging_of [] (without_end c.args.literal c.args.src.now v.l-index (omega arith)) v.invariant.so_far)
