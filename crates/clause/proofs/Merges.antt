@@ -7,6 +7,7 @@ use Rattle.network.specs.Clauses.{without}
 use Rattle.network.specs.Resolution.{merge, twice, unless_twice, resolve}
 use Rattle.clause.specs.Written.{before, after_node, after, last_node, Gives}
 use Rattle.clause.specs.declared.resolvents.Merged.{Merged}
+use Rattle.clause.proofs.Rests.{behind}
 use Rattle.clause.proofs.Fronts.{Sofar, sofar_more, sofar_fails, sofar_ends, sofar_copied}
 
 -- ---- a copy
@@ -110,10 +111,6 @@ merge_right (c ∷ C) = refl
 pub merge_nothing : (y : ℕ) (D : List ℕ) → merge [] (without y D) ≡ without y D
 unfolding merge
 merge_nothing y D = refl
-
--- what a slice pattern leaves behind the first
-abbrev pub behind : List ℕ → List ℕ
-behind C = take (length C - 1) (drop 1 C)
 
 -- the words D but for y are merged into the literal c and the literals C
 module _ (y c : ℕ) (C : List ℕ) where

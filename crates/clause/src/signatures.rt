@@ -44,9 +44,10 @@ impl Signature {
     {
         let low = self.low - (self.low & other.low);
         let high = self.high - (self.high & other.high);
-        if low == 0 {
-            return high & high.wrapping_sub(1) == 0;
+        match (low, high) {
+            (0, 0) => true,
+            (0, bits) | (bits, 0) => bits.is_power_of_two(),
+            _ => false,
         }
-        high == 0 && low & (low - 1) == 0
     }
 }

@@ -27,13 +27,13 @@ pub fn ordered_simp(clause: &[u32], values: &[Lbool], out: &mut [u32]) -> Option
     }
     let mut n = 0;
     for l in clause {
-        let value = value_of(values, Lit::from(*l));
-        if value.is_true() {
-            return None;
-        }
-        if !value.is_false() {
-            out[n] = *l;
-            n += 1;
+        match value_of(values, Lit::from(*l)) {
+            Lbool::True => return None,
+            Lbool::False => {}
+            Lbool::None => {
+                out[n] = *l;
+                n += 1;
+            }
         }
     }
     Some(n)

@@ -3,7 +3,8 @@ use Rattle.std.proofs.lemmas.Bool.Decides.{nat_tests}
 use Rattle.network.specs.Clauses.{without}
 use Rattle.network.specs.Resolution.{merge}
 use Rattle.clause.proofs.Fronts.{room_enough, writes_same}
-use Rattle.clause.proofs.Merges.{behind, take_left, take_right, take_both, resolve_merge, merge_nothing, merging_of, merging_more, merging_fails, merging_finished, without_end}
+use Rattle.clause.proofs.Rests.{behind}
+use Rattle.clause.proofs.Merges.{take_left, take_right, take_both, resolve_merge, merge_nothing, merging_of, merging_more, merging_fails, merging_finished, without_end}
 use Rattle.clause.proofs.resolvents.ordered_resolvent.Goals as goal
 use Rattle.clause.proofs.resolvents.ordered_resolvent.Goals.{Joined-rest-lt1-2, then-rest-lt1, in-len1-up+else-d-c, then-d-y, else-d-y, in-len1-up-rest+then-d-c-2, else-rest-lt1-2, else-rest-lt1-2-via-then-rest-lt1-2, else-rest-lt1-2-via-in-len1-up-rest+else-d-c-2}
 
@@ -27,13 +28,14 @@ passes c =
       | in-len1-up-rest+then-d-c-2 w ↦ rw w.rest-is (take_both y k rest D (omega arith) (λ e. (stops c (omega arith)).0 (w.if-d-c-2.true ∙ e)) w.if-d-c-2.true)
       | else-rest-lt1-2 w ↦
           rw w.rest-is
-              (take_left y k rest D (λ h.
-              let s = stops c h in
-              (s.0,
-              elim w.else-rest-lt1-2.branch [
-                | else-rest-lt1-2-via-then-rest-lt1-2 w' ↦ absurd (grind (arith, nat_tests))
-                | else-rest-lt1-2-via-in-len1-up-rest+else-d-c-2 w' ↦ omega (arith, s.1, w'.if-d-c-2.false)
-              ])))
+          (take_left y k rest D (λ h.
+          let s = stops c h in (
+            s.0,
+            elim w.else-rest-lt1-2.branch [
+              | else-rest-lt1-2-via-then-rest-lt1-2 w' ↦ absurd (grind (arith, nat_tests))
+              | else-rest-lt1-2-via-in-len1-up-rest+else-d-c-2 w' ↦ omega (arith, s.1, w'.if-d-c-2.false)
+            ],
+          )))
     ]
 
 no_longer : (c : Joined-rest-lt1-2) → length c.if-rest-lt1-2.rest.now ≤ length c.loop-rest.rest.now
@@ -53,8 +55,8 @@ returns-in_err-push c =
     let less : d < k = elim c.if-d-y.branch [ then-d-y w ↦ absurd (c.if-d-y-2.true w.if-d-y.true) | else-d-y w ↦ grind (arith, nat_tests) ] in
     writes_same c.push.new.self.out.now (search rules)
     (rw (c.from_residual.ensures, resolve_merge c.args.pivot.word y a b c.opposite.ensures)
-        (room_enough (omega arith)
-        (merging_fails d rest (merging_of (d ∷ rest) (take_right y k C D (omega arith) c.if-d-y-2.true less) v.invariant.so_far) (length a + length b) c.push.new.self.out.now (omega arith) c.in_err-push.ensures.added)))
+    (room_enough (omega arith)
+    (merging_fails d rest (merging_of (d ∷ rest) (take_right y k C D (omega arith) c.if-d-y-2.true less) v.invariant.so_far) (length a + length b) c.push.new.self.out.now (omega arith) c.in_err-push.ensures.added)))
 
 pub loop-rest-preserved-in_ok-push : goal.loop-rest-preserved-in_ok-push
 loop-rest-preserved-in_ok-push c =
@@ -84,9 +86,9 @@ returns-in_err-push-2 c =
     let rest = merge (without c.args.pivot.word (drop (c.loop-c.c-index + 1) a)) (without c.opposite.result.word c.if-rest-lt1-2.rest.now) in
     writes_same c.push-in-loop-c.new.self.out.now (search rules)
     (rw (c.from_residual-in_err-push-2.ensures, resolve_merge c.args.pivot.word c.opposite.result.word a b c.opposite.ensures)
-        (room_enough (omega arith)
-        (merging_fails k rest (merging_of (k ∷ rest) (passes (goal.at.returns-in_err-push-2 c).Joined-rest-lt1-2) v.invariant.so_far) (length a + length b)
-        c.push-in-loop-c.new.self.out.now (omega arith) c.in_err-push-2.ensures.added)))
+    (room_enough (omega arith)
+    (merging_fails k rest (merging_of (k ∷ rest) (passes (goal.at.returns-in_err-push-2 c).Joined-rest-lt1-2) v.invariant.so_far) (length a + length b)
+    c.push-in-loop-c.new.self.out.now (omega arith) c.in_err-push-2.ensures.added)))
 
 pub loop-c-preserved : goal.loop-c-preserved
 loop-c-preserved c =
@@ -110,6 +112,6 @@ returns c =
     let D = without y v.rest.now in
     writes_same c.finish.new.self.out.now (search rules)
     (rw (resolve_merge x y a b c.opposite.ensures)
-        (room_enough (omega arith)
-        (merging_finished c.finish.result c.finish.new.self.out.now (length a + length b) (v.merged.len + length v.rest.now) (omega arith) (omega arith)
-        (merging_of D (ap (λ C. merge C D) (without_end x a v.c-index (omega arith)) ∙ merge_nothing y v.rest.now) v.invariant.so_far) c.finish.ensures.added)))
+    (room_enough (omega arith)
+    (merging_finished c.finish.result c.finish.new.self.out.now (length a + length b) (v.merged.len + length v.rest.now) (omega arith) (omega arith)
+    (merging_of D (ap (λ C. merge C D) (without_end x a v.c-index (omega arith)) ∙ merge_nothing y v.rest.now) v.invariant.so_far) c.finish.ensures.added)))

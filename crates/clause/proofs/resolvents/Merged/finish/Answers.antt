@@ -22,20 +22,20 @@ loop-l-preserved c =
     elim c.if-l-literal.branch [
       | then-l-literal+in_ok-push w ↦
           rw w.self-is
-              (record {
-                same_reference = cc (w.in_ok-push.ensures.same_reference);
-                few = omega (arith, w.in_ok-push.ensures.added.1);
-                so_far =
-                    merging_more l rest (merging_of (l ∷ rest) (without_kept c.args.literal src v.l-index (omega arith) w.if-l-literal.true) v.invariant.so_far)
-                    w.push.new.self (omega (arith, v.invariant.so_far.same_length)) w.in_ok-push.ensures.added;
-              })
+          (record {
+            same_reference = cc (w.in_ok-push.ensures.same_reference);
+            few = omega (arith, w.in_ok-push.ensures.added.1);
+            so_far =
+                merging_more l rest (merging_of (l ∷ rest) (without_kept c.args.literal src v.l-index (omega arith) w.if-l-literal.true) v.invariant.so_far)
+                w.push.new.self (omega (arith, v.invariant.so_far.same_length)) w.in_ok-push.ensures.added;
+          })
       | else-l-literal w ↦
           rw w.self-is
-              (record {
-                same_reference = v.invariant.same_reference;
-                few = omega arith;
-                so_far = merging_of rest (without_lost c.args.literal src v.l-index (omega arith) w.if-l-literal.false) v.invariant.so_far;
-              })
+          (record {
+            same_reference = v.invariant.same_reference;
+            few = omega arith;
+            so_far = merging_of rest (without_lost c.args.literal src v.l-index (omega arith) w.if-l-literal.false) v.invariant.so_far;
+          })
     ]
 
 pub returns-clause-added : goal.returns-clause-added
