@@ -45,8 +45,8 @@ impl Signature {
         let low = self.low - (self.low & other.low);
         let high = self.high - (self.high & other.high);
         match (low, high) {
-            (0, 0) => true,
-            (0, bits) | (bits, 0) => bits.is_power_of_two(),
+            (0, bits) => bits == 0 || bits.is_power_of_two(),
+            (bits, 0) => bits.is_power_of_two(),
             _ => false,
         }
     }
