@@ -4,7 +4,7 @@ ghost use Rattle.network.specs.Signature.{signature, Covers, within, missing};
 ghost use Rattle.network.specs.Subsumption.{part_of, fits};
 
 // 128 bits in two halves, to which each literal of a clause adds the bit of its number modulo 128.
-#[derive(Clone, Copy)]
+#[derive(Clone, Copy, PartialEq, Eq, Debug)]
 pub struct Signature {
     pub low: u64,
     pub high: u64,
