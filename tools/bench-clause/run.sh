@@ -11,14 +11,15 @@ for crate in network clause; do
 done
 cp "$here/wrappers.txt" "$temp/crates/bench_clause/src/lib.rt"
 printf 'network:\nclause: network\nbench_clause staticlib: network clause\n' > "$temp/crates.txt"
-# a slice of a struct crosses to C only where the struct says its layout
-sed -i 's/^pub struct Lbool/#[repr(C)]\npub struct Lbool/' "$temp/crates/clause/src/literals.rt"
 (cd "$temp/crates/bench_clause" && rt lib > "$temp/lib.log" 2>&1) || { tail -5 "$temp/lib.log"; exit 1; }
 kit=$(dirname "$(rt doc)")
 rustc -O -C opt-level=3 -C codegen-units=1 -g --edition 2024 "$here/driver.rs" -o "$temp/driver" \
     -C link-arg="$temp/crates/bench_clause/out/libbench_clause.a" -C link-arg="$kit/c/liblibc_c.a" 2> "$temp/rustc.log" || { cat "$temp/rustc.log"; exit 1; }
 count() {
-    valgrind --tool=callgrind --callgrind-out-file="$temp/out.$2_$1" --toggle-collect="$2_$1" "$temp/driver" "$1" "$2" > "$temp/answer.$2" 2> "$temp/valgrind.log"
+    counted=$2_$1
+    # the values come as bytes: what makes them is no part of the operation
+    [ "$counted" != rattle_simp ] || counted=bench_clause::simp_counted
+    valgrind --tool=callgrind --callgrind-out-file="$temp/out.$2_$1" --toggle-collect="$counted" "$temp/driver" "$1" "$2" > "$temp/answer.$2" 2> "$temp/valgrind.log"
     awk '/^summary:|^totals:/ { t = $2 } END { print t }' "$temp/out.$2_$1"
 }
 # instructions of the allocator within them

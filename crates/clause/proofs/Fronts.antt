@@ -71,3 +71,6 @@ pub room_short : {most : ℕ} {o : Option (List ℕ)} {old : List ℕ} → lengt
 room_short {most} {o} {old} h =
     let P : Option (List ℕ) → Type 0 = λ o'. Gives most None o' old old in
     record { given = subst P (sym (cond-true (ltb (length old) most) None o (lt-ltb (length old) most h))) refl; short = λ l. refl }
+
+pub writes_same : {most : ℕ} {r : Option ℕ} {o : Option (List ℕ)} {old new : List ℕ} (new' : List ℕ) → new ≡ new' → Writes most r o old new' → Writes most r o old new
+writes_same {most} {r} {o} {old} {new} new' e w = subst (λ xs. Writes most r o old xs) (sym e) w

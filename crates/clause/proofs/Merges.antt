@@ -1,11 +1,14 @@
 -- The steps of a copy without one literal, and of the merge of two such copies. Assumes nothing.
-use Rattle.std.proofs.Common.{◌≡◌, ℕ, ◌+◌, ◌<◌, ◌≤◌, Bool, true, false, cond, not, ◌||◌, eqb, ltb, List, [], ◌∷◌, length, get_or, drop, Some, None, sym, refl, ap, ◌∙◌, ⊎_elim, arith}
-use Rattle.std.proofs.lemmas.List.{at_drop_more, at_drop_all}
+use Rattle.std.proofs.Common.{◌≡◌, ℕ, ◌+◌, ◌-◌, ◌<◌, ◌≤◌, Bool, true, false, cond, not, ◌||◌, eqb, List, [], ◌∷◌, ◌++◌, length, get_or, take, drop, set, Some, None, Option, sym, refl, ap, ◌∙◌, subst, ⊎_elim, arith, length-set}
+use Rattle.std.proofs.lemmas.List.{at_drop_more, at_drop_all, take_more, take_more_set, take_rest}
 use Rattle.std.proofs.lemmas.Bool.{cases_eq, cond-true, cond-false, eq-eqb, ne_eqb, lt-ltb, le-ltb}
 use Rattle.network.specs.Assignments.{node, opposite}
 use Rattle.network.specs.Clauses.{without}
 use Rattle.network.specs.Resolution.{merge, twice, unless_twice, resolve}
-use Rattle.clause.specs.Written.{before, after_node, after}
+use Rattle.clause.specs.Written.{before, after_node, after, last_node, Gives}
+use Rattle.clause.specs.declared.resolvents.Merged.{Merged}
+use Rattle.clause.proofs.Rests.{behind}
+use Rattle.clause.proofs.Fronts.{Sofar, sofar_more, sofar_fails, sofar_ends, sofar_copied}
 
 -- ---- a copy
 
@@ -18,6 +21,21 @@ module _ (x : ℕ) (C : List ℕ) (i : ℕ) where
 
   pub without_end : length C ≤ i → without x (drop i C) ≡ []
   without_end h = at_drop_all (without x) C i h
+
+-- ---- the last literal
+
+last_node_append : (xs : List ℕ) (l : ℕ) → last_node (xs ++ (l ∷ [])) ≡ Some (node l)
+last_node_append [] l = refl
+last_node_append (x ∷ []) l = refl
+last_node_append (x ∷ y ∷ ys) l = last_node_append (y ∷ ys) l
+
+pub last_node_front : (xs : List ℕ) (n : ℕ) → 0 < n → n ≤ length xs → last_node (take n xs) ≡ Some (node (get_or xs (n - 1) 0))
+last_node_front xs n h k =
+    let e : n - 1 + 1 ≡ n = omega arith in
+    ap (λ m. last_node (take m xs)) (sym e) ∙ ap last_node (take_more xs (n - 1) 0 (omega arith)) ∙ last_node_append (take (n - 1) xs) (get_or xs (n - 1) 0)
+
+pub last_node_none : (xs : List ℕ) (n : ℕ) → n ≤ 0 → last_node (take n xs) ≡ None
+last_node_none xs n h = let e : n ≡ 0 = omega arith in ap (λ m. last_node (take m xs)) e
 
 -- ---- the list, unless a node stands twice in a row
 
@@ -34,116 +52,86 @@ once_first l (y ∷ R) =
     pick false true = refl
     pick false false = refl
 
-after_at : (p : ℕ) (R : List ℕ) → (p ≡ 4294967295 → ⊥) → after p R ≡ after_node p R
-after_at p R n = cond-false _ _ _ (ne_eqb p 4294967295 n)
+pub after_none : (p : Option ℕ) → after p [] ≡ Some []
+after_none None = refl
+after_none (Some p) = refl
 
-after_first : (p : ℕ) (R : List ℕ) → p ≡ 4294967295 → after p R ≡ unless_twice R
-after_first p R e = cond-true _ _ _ (eq-eqb p 4294967295 e)
+after_kept : (p : Option ℕ) (l : ℕ) (R : List ℕ) → (p ≡ Some (node l) → ⊥) → after p (l ∷ R) ≡ before (l ∷ []) (after (Some (node l)) R)
+after_kept None l R n = once_first l R
+after_kept (Some p) l R n = cond-false _ _ _ (ne_eqb (node l) p (λ e. n (ap Some (sym e))))
 
-pub after_none : (p : ℕ) → after p [] ≡ Some []
-after_none p = ⊎_elim (λ e. after_first p [] e) (λ n. after_at p [] n) (cases_eq p 4294967295)
+after_twice : (p : Option ℕ) (l : ℕ) (R : List ℕ) → p ≡ Some (node l) → after p (l ∷ R) ≡ None
+after_twice p l R e = ap (λ q. after q (l ∷ R)) e ∙ cond-true _ _ _ (eq-eqb (node l) (node l) refl)
 
-module _ (p l : ℕ) (R : List ℕ) (small : node l ≡ 4294967295 → ⊥) where
-  pub after_kept : (node l ≡ p → ⊥) → after p (l ∷ R) ≡ before (l ∷ []) (after (node l) R)
-  after_kept n =
-      ⊎_elim (λ e. after_first p (l ∷ R) e ∙ once_first l R) (λ a. after_at p (l ∷ R) a ∙ cond-false _ _ _ (ne_eqb (node l) p n)) (cases_eq p 4294967295)
-      ∙ sym (ap (before (l ∷ [])) (after_at (node l) R small))
+-- ---- a resolvent as far as it is written
 
-  pub after_twice : node l ≡ p → after p (l ∷ R) ≡ None
-  after_twice e = after_at p (l ∷ R) (λ q. small (e ∙ q)) ∙ cond-true _ _ _ (eq-eqb (node l) p e)
+-- what is written and `rest` are `all`, unless a node stands twice in a row, and past what is written `out` is as `old` was
+pub record Merging (all : Option (List ℕ)) (rest old : List ℕ) (m : Merged) : Type 0 where
+  pub same_length : length m.out.now ≡ length old
+  pub so_far : Sofar all (after (last_node (take m.len m.out.now)) rest) old m.out.now m.len
+
+pub merging_of : {all : Option (List ℕ)} {rest old : List ℕ} {m : Merged} (rest' : List ℕ) → rest ≡ rest' → Merging all rest old m → Merging all rest' old m
+merging_of {all} {rest} {old} {m} rest' e s = subst (λ r. Merging all r old m) e s
+
+module _ {all : Option (List ℕ)} {old : List ℕ} {m : Merged} (l : ℕ) (rest : List ℕ) (s : Merging all (l ∷ rest) old m) where
+  -- after `push`
+  pub merging_more : (m' : Merged) → m.len < length m.out.now → (last_node (take m.len m.out.now) ≡ Some (node l) → ⊥) × (m'.len ≡ m.len + 1) × (m'.out.now ≡ set m.out.now m.len l)
+      → Merging all rest old m'
+  merging_more m' h (other, longer, written) = record {
+    same_length = omega (arith, ap length written, length-set m.out.now m.len l, s.same_length);
+    so_far = rw (written, longer)
+        (sofar_more s.so_far (after (last_node (take (m.len + 1) (set m.out.now m.len l))) rest) l h
+        (after_kept (last_node (take m.len m.out.now)) l rest other
+        ∙ ap (λ p. before (l ∷ []) (after p rest)) (sym (ap last_node (take_more_set m.out.now m.len l h) ∙ last_node_append (take m.len m.out.now) l))));
+  }
+
+  pub merging_fails : (most : ℕ) (out : List ℕ) → m.len ≤ most → (last_node (take m.len m.out.now) ≡ Some (node l)) × (out ≡ m.out.now) → Gives most None all old out
+  merging_fails most out h (twice, same) = rw same (sofar_fails s.so_far most h (after_twice (last_node (take m.len m.out.now)) l rest twice))
+
+pub merging_ends : {all : Option (List ℕ)} {old : List ℕ} {m : Merged} (most : ℕ) → Merging all [] old m → Gives most (Some m.len) all old m.out.now
+merging_ends {m = m} most s = sofar_ends s.so_far most (after_none (last_node (take m.len m.out.now)))
+
+-- after `finish`
+pub merging_finished : {all : Option (List ℕ)} {rest old : List ℕ} {m : Merged} (r : Option ℕ) (out : List ℕ) (most part : ℕ) → m.len ≤ part → part ≤ most → Merging all rest old m
+    → Gives part r (before (take m.len m.out.now) (after (last_node (take m.len m.out.now)) rest)) m.out.now out → Gives most r all old out
+merging_finished {rest = rest} {m = m} r out most part h k s g = sofar_copied s.so_far most part (after (last_node (take m.len m.out.now)) rest) out r h k refl g
 
 -- ---- the merge
 
-merge_step : (c : ℕ) (C : List ℕ) (d : ℕ) (D : List ℕ) → merge (c ∷ C) (d ∷ D) ≡ cond (ltb c d) (c ∷ merge C (d ∷ D)) (cond (ltb d c) (d ∷ merge (c ∷ C) D) (c ∷ merge C D))
-unfolding merge
-merge_step c C d D = refl
-
-merge_left : (D : List ℕ) → merge [] D ≡ D
-unfolding merge
-merge_left D = refl
+-- the resolvent, where y is the opposite of x
+pub resolve_merge : (x y : ℕ) (a b : List ℕ) → y ≡ opposite x → resolve x a b ≡ unless_twice (merge (without x a) (without y b))
+unfolding resolve
+resolve_merge x y a b e = ap (λ z. unless_twice (merge (without x a) (without z b))) (sym e)
 
 merge_right : (C : List ℕ) → merge C [] ≡ C
 unfolding merge
 merge_right [] = refl
 merge_right (c ∷ C) = refl
 
--- what is left to merge from the places i and j on
-unfoldable pub left : ℕ → ℕ → List ℕ → List ℕ → ℕ → ℕ → List ℕ
-left x y a b i j = merge (without x (drop i a)) (without y (drop j b))
+pub merge_nothing : (y : ℕ) (D : List ℕ) → merge [] (without y D) ≡ without y D
+unfolding merge
+merge_nothing y D = refl
 
--- the resolvent, where y is the opposite of x
-pub resolve_left : (x y : ℕ) (a b : List ℕ) → y ≡ opposite x → resolve x a b ≡ after 4294967295 (left x y a b 0 0)
-unfolding resolve left
-resolve_left x y a b e = ap (λ z. unless_twice (merge (without x a) (without z b))) (sym e)
+-- the words D but for y are merged into the literal c and the literals C
+module _ (y c : ℕ) (C : List ℕ) where
+  pub take_right : (D : List ℕ) → 0 < length D → (get_or D 0 0 ≡ y → ⊥) → get_or D 0 0 < c → merge (c ∷ C) (without y D) ≡ get_or D 0 0 ∷ merge (c ∷ C) (without y (behind D))
+  unfolding merge
+  take_right [] k ny h = absurd (omega arith)
+  take_right (d ∷ D) k ny h =
+      ap (merge (c ∷ C)) (without_kept y (d ∷ D) 0 (omega arith) ny) ∙ cond-false _ _ _ (le-ltb c d (omega arith)) ∙ cond-true _ _ _ (lt-ltb _ _ h)
+      ∙ ap (λ R. d ∷ merge (c ∷ C) (without y R)) (sym (take_rest (d ∷ D) 1))
 
--- one turn: it takes the literal l, and goes on from k and m
-pub record Turn (x y : ℕ) (a b : List ℕ) (i j l k m : ℕ) : Type 0 where
-  pub takes : left x y a b i j ≡ l ∷ left x y a b k m
-  pub in_a : k ≤ length a
-  pub in_b : m ≤ length b
-  pub more : i + j < k + m
-  pub small : node l ≡ 4294967295 → ⊥
+  pub take_left : (D : List ℕ) → (0 < length D → (get_or D 0 0 ≡ y → ⊥) × (c < get_or D 0 0)) → merge (c ∷ C) (without y D) ≡ c ∷ merge C (without y D)
+  unfolding merge
+  take_left [] h = ap (λ R. c ∷ R) (sym (merge_right C))
+  take_left (d ∷ D) h =
+      let k = h (omega arith) in
+      let e = without_kept y (d ∷ D) 0 (omega arith) k.0 in
+      ap (merge (c ∷ C)) e ∙ cond-true _ _ _ (lt-ltb c d k.1) ∙ ap (λ R. c ∷ merge C R) (sym e)
 
-pub turned : {x y : ℕ} {a b : List ℕ} {i j l k m : ℕ} (l' k' m' : ℕ) → l' ≡ l → k' ≡ k → m' ≡ m → Turn x y a b i j l k m → Turn x y a b i j l' k' m'
-turned {x} {y} {a} {b} {i} {j} l' k' m' el ek em t = record {
-  takes = t.takes ∙ sym (λ z. el z ∷ left x y a b (ek z) (em z));
-  in_a = omega (arith, t.in_a);
-  in_b = omega (arith, t.in_b);
-  more = omega (arith, t.more);
-  small = λ e. t.small (omega arith);
-}
-
-module _ (x y : ℕ) (a b : List ℕ) (i j : ℕ) where
-  pub left_over : length b ≤ j → left x y a b i j ≡ without x (drop i a)
-  unfolding left
-  left_over h = ap (merge (without x (drop i a))) (without_end y b j h) ∙ merge_right (without x (drop i a))
-
-  pub right_over : length a ≤ i → left x y a b i j ≡ without y (drop j b)
-  unfolding left
-  right_over h = ap (λ C. merge C (without y (drop j b))) (without_end x a i h) ∙ merge_left (without y (drop j b))
-
-  pub skip_left : i < length a → get_or a i 0 ≡ x → left x y a b i j ≡ left x y a b (i + 1) j
-  unfolding left
-  skip_left h e = ap (λ C. merge C (without y (drop j b))) (without_lost x a i h e)
-
-  pub skip_right : j < length b → get_or b j 0 ≡ y → left x y a b i j ≡ left x y a b i (j + 1)
-  unfolding left
-  skip_right h e = ap (merge (without x (drop i a))) (without_lost y b j h e)
-
-  module _ (in_a : i < length a) (in_b : j < length b) (nx : get_or a i 0 ≡ x → ⊥) (ny : get_or b j 0 ≡ y → ⊥) where
-    heads : left x y a b i j ≡ merge (get_or a i 0 ∷ without x (drop (i + 1) a)) (get_or b j 0 ∷ without y (drop (j + 1) b))
-    unfolding left
-    heads = λ z. merge (without_kept x a i in_a nx z) (without_kept y b j in_b ny z)
-
-    pub take_left : (node (get_or a i 0) ≡ 4294967295 → ⊥) → get_or a i 0 < get_or b j 0 → Turn x y a b i j (get_or a i 0) (i + 1) j
-    unfolding left
-    take_left s h = record {
-      takes = heads ∙ merge_step (get_or a i 0) (without x (drop (i + 1) a)) (get_or b j 0) (without y (drop (j + 1) b)) ∙ cond-true _ _ _ (lt-ltb _ _ h)
-          ∙ ap (λ D. get_or a i 0 ∷ merge (without x (drop (i + 1) a)) D) (sym (without_kept y b j in_b ny));
-      in_a = omega arith;
-      in_b = omega arith;
-      more = omega arith;
-      small = s;
-    }
-
-    pub take_right : (node (get_or b j 0) ≡ 4294967295 → ⊥) → get_or b j 0 < get_or a i 0 → Turn x y a b i j (get_or b j 0) i (j + 1)
-    unfolding left
-    take_right s h = record {
-      takes = heads ∙ merge_step (get_or a i 0) (without x (drop (i + 1) a)) (get_or b j 0) (without y (drop (j + 1) b)) ∙ cond-false _ _ _ (le-ltb (get_or a i 0) (get_or b j 0) (omega arith))
-          ∙ cond-true _ _ _ (lt-ltb _ _ h) ∙ ap (λ C. get_or b j 0 ∷ merge C (without y (drop (j + 1) b))) (sym (without_kept x a i in_a nx));
-      in_a = omega arith;
-      in_b = omega arith;
-      more = omega arith;
-      small = s;
-    }
-
-    pub take_both : (node (get_or a i 0) ≡ 4294967295 → ⊥) → get_or a i 0 ≡ get_or b j 0 → Turn x y a b i j (get_or a i 0) (i + 1) (j + 1)
-    unfolding left
-    take_both s e = record {
-      takes = heads ∙ merge_step (get_or a i 0) (without x (drop (i + 1) a)) (get_or b j 0) (without y (drop (j + 1) b)) ∙ cond-false _ _ _ (le-ltb (get_or a i 0) (get_or b j 0) (omega arith))
-          ∙ cond-false _ _ _ (le-ltb (get_or b j 0) (get_or a i 0) (omega arith));
-      in_a = omega arith;
-      in_b = omega arith;
-      more = omega arith;
-      small = s;
-    }
+  pub take_both : (D : List ℕ) → 0 < length D → (c ≡ y → ⊥) → get_or D 0 0 ≡ c → merge (c ∷ C) (without y D) ≡ c ∷ merge C (without y (behind D))
+  unfolding merge
+  take_both [] k ny e = absurd (omega arith)
+  take_both (d ∷ D) k ny e =
+      ap (merge (c ∷ C)) (without_kept y (d ∷ D) 0 (omega arith) (λ q. ny (sym e ∙ q))) ∙ cond-false _ _ _ (le-ltb c d (omega arith)) ∙ cond-false _ _ _ (le-ltb d c (omega arith))
+      ∙ ap (λ R. c ∷ merge C (without y R)) (sym (take_rest (d ∷ D) 1))

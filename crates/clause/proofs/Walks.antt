@@ -14,67 +14,67 @@ word_of (Some l) = Some l.word
 
 -- ---- past the end of one of them
 
-part_nil : (D : List ℕ) → part_of [] D ≡ true
+pub part_done : (C D : List ℕ) → length C ≤ 0 → part_of C D ≡ true
 unfolding part_of
-part_nil [] = refl
-part_nil (d ∷ D) = refl
+part_done [] [] h = refl
+part_done [] (d ∷ D) h = refl
+part_done (c ∷ C) D h = absurd (omega arith)
 
-fits_nil : (o : Option ℕ) (D : List ℕ) → fits_from o [] D ≡ (true, o)
+pub fits_done : (o : Option ℕ) (C D : List ℕ) → length C ≤ 0 → fits_from o C D ≡ (true, o)
 unfolding fits_from
-fits_nil o [] = refl
-fits_nil o (d ∷ D) = refl
+fits_done o [] [] h = refl
+fits_done o [] (d ∷ D) h = refl
+fits_done o (c ∷ C) D h = absurd (omega arith)
 
-module _ (a b : List ℕ) (i j : ℕ) where
-  pub part_done : length a ≤ i → part_of (drop i a) (drop j b) ≡ true
-  part_done h = ap (λ C. part_of C (drop j b)) (drop_all i a h) ∙ part_nil (drop j b)
+pub part_over : (C b : List ℕ) (j : ℕ) → length b ≤ j → part_of C (drop j b) ≡ eqb (length C) 0
+unfolding part_of
+part_over [] b j h = part_done [] (drop j b) (omega arith)
+part_over (c ∷ C) b j h = rw (drop_all j b h) (sym (ne_eqb (length (c ∷ C)) 0 (λ e. omega arith)))
 
-  pub fits_done : (o : Option ℕ) → length a ≤ i → fits_from o (drop i a) (drop j b) ≡ (true, o)
-  fits_done o h = ap (λ C. fits_from o C (drop j b)) (drop_all i a h) ∙ fits_nil o (drop j b)
+pub fits_over : (o : Option ℕ) (C b : List ℕ) (j : ℕ) → 0 < length C → length b ≤ j → fits_from o C (drop j b) ≡ (false, o)
+unfolding fits_from
+fits_over o [] b j k h = absurd (omega arith)
+fits_over o (c ∷ C) b j k h = rw (drop_all j b h)
 
-  pub part_end : i < length a → length b ≤ j → part_of (drop i a) (drop j b) ≡ false
-  unfolding part_of
-  part_end h k = rw (drop_more a i 0 h, drop_all j b k)
+-- ---- one turn: the literal c, the literals C behind it, and the place j of the other clause
 
-  pub fits_end : (o : Option ℕ) → i < length a → length b ≤ j → fits_from o (drop i a) (drop j b) ≡ (false, o)
-  unfolding fits_from
-  fits_end o h k = rw (drop_more a i 0 h, drop_all j b k)
-
-  module _ (in_a : i < length a) (in_b : j < length b) where
-    part_head : part_of (drop i a) (drop j b) ≡ cond (eqb (get_or a i 0) (get_or b j 0)) (part_of (drop (i + 1) a) (drop (j + 1) b)) (cond (ltb (get_or b j 0) (get_or a i 0)) (part_of (drop i a) (drop (j + 1) b)) false)
+module _ (c : ℕ) (C b : List ℕ) (j : ℕ) where
+  module _ (in_b : j < length b) where
+    part_head : part_of (c ∷ C) (drop j b) ≡ cond (eqb c (get_or b j 0)) (part_of C (drop (j + 1) b)) (cond (ltb (get_or b j 0) c) (part_of (c ∷ C) (drop (j + 1) b)) false)
     unfolding part_of
-    part_head = rw (drop_more a i 0 in_a, drop_more b j 0 in_b)
+    part_head = rw (drop_more b j 0 in_b)
 
-    pub part_same : get_or a i 0 ≡ get_or b j 0 → part_of (drop i a) (drop j b) ≡ part_of (drop (i + 1) a) (drop (j + 1) b)
+    pub part_same : c ≡ get_or b j 0 → part_of (c ∷ C) (drop j b) ≡ part_of C (drop (j + 1) b)
     part_same e = part_head ∙ cond-true _ _ _ (eq-eqb _ _ e)
 
-    pub part_past : get_or b j 0 < get_or a i 0 → part_of (drop i a) (drop j b) ≡ part_of (drop i a) (drop (j + 1) b)
-    part_past h = part_head ∙ cond-false _ _ _ (ne_eqb (get_or a i 0) (get_or b j 0) (λ e. omega arith)) ∙ cond-true _ _ _ (lt-ltb _ _ h)
+    pub part_past : get_or b j 0 < c → part_of (c ∷ C) (drop j b) ≡ part_of (c ∷ C) (drop (j + 1) b)
+    part_past h = part_head ∙ cond-false _ _ _ (ne_eqb c (get_or b j 0) (λ e. omega arith)) ∙ cond-true _ _ _ (lt-ltb _ _ h)
 
-    pub part_miss : get_or a i 0 < get_or b j 0 → part_of (drop i a) (drop j b) ≡ false
-    part_miss h = part_head ∙ cond-false _ _ _ (ne_eqb (get_or a i 0) (get_or b j 0) (λ e. omega arith)) ∙ cond-false _ _ _ (le-ltb (get_or b j 0) (get_or a i 0) (omega arith))
+    pub part_miss : c < get_or b j 0 → part_of (c ∷ C) (drop j b) ≡ false
+    part_miss h = part_head ∙ cond-false _ _ _ (ne_eqb c (get_or b j 0) (λ e. omega arith)) ∙ cond-false _ _ _ (le-ltb (get_or b j 0) c (omega arith))
 
-    fits_head : (o : Option ℕ) → fits_from o (drop i a) (drop j b) ≡ cond (eqb (get_or a i 0) (get_or b j 0)) (fits_from o (drop (i + 1) a) (drop (j + 1) b))
-        (cond (eqb (node (get_or a i 0)) (node (get_or b j 0))) (opposite_noted (get_or a i 0) o (λ p. fits_from p (drop (i + 1) a) (drop (j + 1) b)))
-        (cond (ltb (get_or b j 0) (get_or a i 0)) (fits_from o (drop i a) (drop (j + 1) b)) (false, o)))
+    fits_head : (o : Option ℕ) → fits_from o (c ∷ C) (drop j b) ≡ cond (eqb c (get_or b j 0)) (fits_from o C (drop (j + 1) b))
+        (cond (eqb (node c) (node (get_or b j 0))) (opposite_noted c o (λ p. fits_from p C (drop (j + 1) b)))
+        (cond (ltb (get_or b j 0) c) (fits_from o (c ∷ C) (drop (j + 1) b)) (false, o)))
     unfolding fits_from
-    fits_head o = rw (drop_more a i 0 in_a, drop_more b j 0 in_b)
+    fits_head o = rw (drop_more b j 0 in_b)
 
-    pub fits_same : (o : Option ℕ) → get_or a i 0 ≡ get_or b j 0 → fits_from o (drop i a) (drop j b) ≡ fits_from o (drop (i + 1) a) (drop (j + 1) b)
+    pub fits_same : (o : Option ℕ) → c ≡ get_or b j 0 → fits_from o (c ∷ C) (drop j b) ≡ fits_from o C (drop (j + 1) b)
     fits_same o e = fits_head o ∙ cond-true _ _ _ (eq-eqb _ _ e)
 
-    module _ (o : Option ℕ) (ne : get_or a i 0 ≡ get_or b j 0 → ⊥) where
-      apart : fits_from o (drop i a) (drop j b) ≡ cond (eqb (node (get_or a i 0)) (node (get_or b j 0))) (opposite_noted (get_or a i 0) o (λ p. fits_from p (drop (i + 1) a) (drop (j + 1) b)))
-          (cond (ltb (get_or b j 0) (get_or a i 0)) (fits_from o (drop i a) (drop (j + 1) b)) (false, o))
+    module _ (o : Option ℕ) (ne : c ≡ get_or b j 0 → ⊥) where
+      apart : fits_from o (c ∷ C) (drop j b) ≡ cond (eqb (node c) (node (get_or b j 0))) (opposite_noted c o (λ p. fits_from p C (drop (j + 1) b)))
+          (cond (ltb (get_or b j 0) c) (fits_from o (c ∷ C) (drop (j + 1) b)) (false, o))
       apart = fits_head o ∙ cond-false _ _ _ (ne_eqb _ _ ne)
 
-      pub fits_opposite : node (get_or a i 0) ≡ node (get_or b j 0) → fits_from o (drop i a) (drop j b) ≡ opposite_noted (get_or a i 0) o (λ p. fits_from p (drop (i + 1) a) (drop (j + 1) b))
+      pub fits_opposite : node c ≡ node (get_or b j 0) → fits_from o (c ∷ C) (drop j b) ≡ opposite_noted c o (λ p. fits_from p C (drop (j + 1) b))
       fits_opposite e = apart ∙ cond-true _ _ _ (eq-eqb _ _ e)
 
-      pub fits_past : (node (get_or a i 0) ≡ node (get_or b j 0) → ⊥) → get_or b j 0 < get_or a i 0 → fits_from o (drop i a) (drop j b) ≡ fits_from o (drop i a) (drop (j + 1) b)
+      pub fits_past : (node c ≡ node (get_or b j 0) → ⊥) → get_or b j 0 < c → fits_from o (c ∷ C) (drop j b) ≡ fits_from o (c ∷ C) (drop (j + 1) b)
       fits_past n h = apart ∙ cond-false _ _ _ (ne_eqb _ _ n) ∙ cond-true _ _ _ (lt-ltb _ _ h)
 
-      pub fits_miss : (node (get_or a i 0) ≡ node (get_or b j 0) → ⊥) → get_or a i 0 < get_or b j 0 → fits_from o (drop i a) (drop j b) ≡ (false, o)
-      fits_miss n h = apart ∙ cond-false _ _ _ (ne_eqb _ _ n) ∙ cond-false _ _ _ (le-ltb (get_or b j 0) (get_or a i 0) (omega arith))
+      pub fits_miss : (node c ≡ node (get_or b j 0) → ⊥) → c < get_or b j 0 → fits_from o (c ∷ C) (drop j b) ≡ (false, o)
+      fits_miss n h = apart ∙ cond-false _ _ _ (ne_eqb _ _ n) ∙ cond-false _ _ _ (le-ltb (get_or b j 0) c (omega arith))
 
 -- ---- an opposite literal is noted if it is the first
 

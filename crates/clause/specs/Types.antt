@@ -3,10 +3,17 @@ use Rattle.std.specs.Prelude.{ℕ, Bool, true, false, cond, not, List, Some, Non
 use Rattle.network.specs.Values.{Values}
 use Rattle.clause.specs.declared.literals.Lit.{Lit}
 use Rattle.clause.specs.declared.literals.Lbool.{Lbool}
+use Rattle.clause.specs.declared.literals.Lbool.TheVariants.{False, True, None as Unknown}
+
+-- what a known value tells of a node
+abbrev pub told : Lbool → Option Bool
+told False = Some false
+told True = Some true
+told Unknown = None
 
 -- what a byte tells of a node: 1 true, 0 false, any other nothing
-abbrev pub told : ℕ → Option Bool
-told n = cond (n == 1) (Some true) (cond (n == 0) (Some false) None)
+abbrev pub told_by : ℕ → Option Bool
+told_by n = cond (n == 1) (Some true) (cond (n == 0) (Some false) None)
 
 -- whether what is known is b
 abbrev pub is : Bool → Option Bool → Bool
@@ -15,7 +22,7 @@ is b (Some v) = cond b v (not v)
 
 -- the values that a slice holds by node; past its end nothing is known
 abbrev pub values_of : List Lbool → Values
-values_of vs n = told (slice_index_or vs n record { byte = 2 }).byte
+values_of vs n = told (slice_index_or vs n Unknown)
 
 -- the answer of a test with its literal as a word
 abbrev pub worded : Bool × Option Lit → Bool × Option ℕ

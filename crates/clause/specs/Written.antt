@@ -35,6 +35,13 @@ abbrev pub after_node : ℕ → List ℕ → Option (List ℕ)
 after_node p [] = Some []
 after_node p (l ∷ ls) = cond (node l == p) None (before (l ∷ []) (after_node (node l) ls))
 
--- the same, where p may be the largest word, which is no node: then nothing stands before the list
-abbrev pub after : ℕ → List ℕ → Option (List ℕ)
-after p ls = cond (p == 4294967295) (unless_twice ls) (after_node p ls)
+-- the same, where there may be no node before the list
+abbrev pub after : Option ℕ → List ℕ → Option (List ℕ)
+after None ls = unless_twice ls
+after (Some p) ls = after_node p ls
+
+-- the node of the last literal, if there is one
+abbrev pub last_node : List ℕ → Option ℕ
+last_node [] = None
+last_node (l ∷ []) = Some (node l)
+last_node (l ∷ k ∷ ls) = last_node (k ∷ ls)

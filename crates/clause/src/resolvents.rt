@@ -1,40 +1,50 @@
 // Resolvents of two clauses.
-ghost use Rattle.std.specs.Prelude.{◌+◌, ◌-◌, ◌≤◌, length, take, drop};
-ghost use Rattle.clause.specs.Written.{before, after, Gives, Writes};
+ghost use Rattle.std.specs.Prelude.{◌≡◌, ◌≢◌, ◌+◌, ◌<◌, ◌≤◌, length, take, slice_set, MatchOption, Some};
+ghost use Rattle.clause.specs.Written.{before, after, last_node, Gives, Writes};
+ghost use Rattle.network.specs.Assignments.{node};
 ghost use Rattle.network.specs.Clauses.{without};
 ghost use Rattle.network.specs.Resolution.{resolve};
 
 use crate::literals::Lit;
 
-// Above every node that a word can name.
-const NO_NODE: u32 = u32::MAX;
+// A resolvent as far as it is written: `len` literals at the front of `out`.
+#[derive(Drop)]
+struct Merged<'o> {
+    out: &'o mut [u32],
+    len: usize,
+}
 
-// Writes the words of `src` from `from` on, but for `literal`, to `out` from `at` on, and says where they end: None where a node stands twice
-// in a row, the first after the node `last`.
-fn copy_rest(
-    src: &[u32],
-    from: usize,
-    literal: u32,
-    mut last: u32,
-    out: &mut [u32],
-    at: usize,
-) -> Option<usize>
-    requires { (from ≤ length src.now) × (at + (length src.now - from) ≤ length out.old) }
-    ensures { Gives (at + (length src.now - from)) result (before (take at out.old) (after last (without literal (drop from src.now)))) out.old out.new }
-{
-    let mut n = at;
-    for k in from..src.len() {
-        let l = src[k];
-        if l != literal {
-            if l / 2 == last {
-                return None;
-            }
-            last = l / 2;
-            out[n] = l;
-            n += 1;
+impl Merged<'_> {
+    // Adds a literal, unless its node is that of the last one.
+    fn push(&mut self, l: u32) -> Option<()>
+        requires { self.old.len < length self.old.out.now }
+        ensures same_reference { self.new.out.ghost_name ≡ self.old.out.ghost_name }
+        ensures added { MatchOption result ((last_node (take self.old.len self.old.out.now) ≡ Some (node l)) × (self.new.out.now ≡ self.old.out.now))
+            (λ _. (last_node (take self.old.len self.old.out.now) ≢ Some (node l)) × (self.new.len ≡ self.old.len + 1) × (self.new.out.now ≡ slice_set self.old.out.now self.old.len l)) }
+    {
+        let n = self.len;
+        if n > 0 && Lit::from(self.out[n - 1]).var() == Lit::from(l).var() {
+            return None;
         }
+        self.out[n] = l;
+        self.len = n + 1;
+        Some(())
     }
-    Some(n)
+
+    // Adds the words of `src` but for `literal`, and says how many there are then: None where a node stands twice in a row.
+    fn finish(&mut self, src: &[u32], literal: u32) -> Option<usize>
+        requires { self.old.len + length src.now ≤ length self.old.out.now }
+        ensures same_reference { self.new.out.ghost_name ≡ self.old.out.ghost_name }
+        ensures added { Gives (self.old.len + length src.now) result
+            (before (take self.old.len self.old.out.now) (after (last_node (take self.old.len self.old.out.now)) (without literal src.now))) self.old.out.now self.new.out.now }
+    {
+        for l in src {
+            if *l != literal {
+                self.push(*l)?;
+            }
+        }
+        Some(self.len)
+    }
 }
 
 // The resolvent of `a`, which has the pivot, and `b`, which has its opposite, in order at the front of `out`: None for a tautology, and where
@@ -46,34 +56,26 @@ pub fn ordered_resolvent(a: &[u32], b: &[u32], pivot: Lit, out: &mut [u32]) -> O
         return None;
     }
     let (x, y) = (pivot.word, pivot.opposite().word);
-    let (mut i, mut j, mut n, mut last) = (0, 0, 0, NO_NODE);
-    while i < a.len() && j < b.len() {
-        let (c, d) = (a[i], b[j]);
-        if c == x {
-            i += 1;
-        } else if d == y {
-            j += 1;
-        } else {
-            let mut l = c;
-            if c < d {
-                i += 1;
-            } else if d < c {
-                l = d;
-                j += 1;
-            } else {
-                i += 1;
-                j += 1;
-            }
-            if l / 2 == last {
-                return None;
-            }
-            last = l / 2;
-            out[n] = l;
-            n += 1;
+    let mut merged = Merged { out, len: 0 };
+    let mut rest = b;
+    for c in a {
+        if *c == x {
+            continue;
         }
+        while let [d, after_d @ ..] = rest
+            && (*d == y || d < c)
+        {
+            if *d != y {
+                merged.push(*d)?;
+            }
+            rest = after_d;
+        }
+        if let [d, after_d @ ..] = rest
+            && d == c
+        {
+            rest = after_d;
+        }
+        merged.push(*c)?;
     }
-    if i < a.len() {
-        return copy_rest(a, i, x, last, out, n);
-    }
-    copy_rest(b, j, y, last, out, n)
+    merged.finish(rest, y)
 }

@@ -4,7 +4,7 @@ ghost use Rattle.network.specs.Signature.{signature, Covers, within, missing};
 ghost use Rattle.network.specs.Subsumption.{part_of, fits};
 
 // 128 bits in two halves, to which each literal of a clause adds the bit of its number modulo 128.
-#[derive(Clone, Copy)]
+#[derive(Clone, Copy, PartialEq, Eq, Debug)]
 pub struct Signature {
     pub low: u64,
     pub high: u64,
@@ -44,9 +44,10 @@ impl Signature {
     {
         let low = self.low - (self.low & other.low);
         let high = self.high - (self.high & other.high);
-        if low == 0 {
-            return high & high.wrapping_sub(1) == 0;
+        match (low, high) {
+            (0, bits) => bits == 0 || bits.is_power_of_two(),
+            (bits, 0) => bits.is_power_of_two(),
+            _ => false,
         }
-        high == 0 && low & (low - 1) == 0
     }
 }

@@ -8,14 +8,12 @@ use crate::literals::{Lbool, Lit};
 
 // What the values, one for each node, say of a literal. Nothing is known of a node past their end.
 pub fn value_of(values: &[Lbool], l: Lit) -> Lbool
-    ensures { told result.byte ≡ literal (values_of values.now) l.word }
+    ensures { told result ≡ literal (values_of values.now) l.word }
 {
-    let n = l.var().number as usize;
-    if n >= values.len() {
-        return Lbool::NONE;
-    }
-    Lbool {
-        byte: values[n].byte ^ (l.word % 2) as u8,
+    match values.get(l.var().number as usize) {
+        Some(value) if l.polarity() => *value,
+        Some(value) => value.opposite(),
+        None => Lbool::None,
     }
 }
 
@@ -29,13 +27,13 @@ pub fn ordered_simp(clause: &[u32], values: &[Lbool], out: &mut [u32]) -> Option
     }
     let mut n = 0;
     for l in clause {
-        let value = value_of(values, Lit::from_word(*l));
-        if value.is_true() {
-            return None;
-        }
-        if !value.is_false() {
-            out[n] = *l;
-            n += 1;
+        match value_of(values, Lit::from(*l)) {
+            Lbool::True => return None,
+            Lbool::False => {}
+            Lbool::None => {
+                out[n] = *l;
+                n += 1;
+            }
         }
     }
     Some(n)

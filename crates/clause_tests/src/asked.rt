@@ -1,9 +1,7 @@
 // The answers of `clause` beside the recorded ones.
 use crate::table::{Row, numbers, read_row};
-use clause::{Lbool, Lit, Signature};
-
-// The most literals of a clause here, and the most nodes with a value.
-const MOST: usize = 32;
+use clause::{Lbool, Signature};
+use std::alloc::{AllocError, Global};
 
 // How many answers there were of each kind.
 #[derive(Drop)]
@@ -22,63 +20,18 @@ pub struct Counts {
     pub first: Option<(u32, &'static str)>,
 }
 
-// Whether two lists are the same.
-fn same(a: &[u32], b: &[u32]) -> bool {
-    if a.len() != b.len() {
-        return false;
+// Whether a clause of `n` words at the front of `out`, or none, is the recorded one.
+fn agrees(n: Option<usize>, out: &[u32], recorded: Option<&[u32]>) -> bool {
+    match (n, recorded) {
+        (Some(n), Some(clause)) => n <= out.len() && &out[..n] == clause,
+        (None, None) => true,
+        _ => false,
     }
-    for (i, l) in a.iter().enumerate() {
-        if *l != b[i] {
-            return false;
-        }
-    }
-    true
-}
-
-// Whether a clause of `n` words at the front of `out`, or none, is the recorded one, which is there or not.
-fn same_clause(n: Option<usize>, out: &[u32], there: bool, recorded: &[u32]) -> bool {
-    match n {
-        None => !there,
-        Some(n) => there && n <= out.len() && same(&out[0..n], recorded),
-    }
-}
-
-// Writes a clause to the front of `out`, as far as it goes.
-fn copy_to(clause: &[u32], out: &mut [u32]) {
-    for (i, l) in clause.iter().enumerate() {
-        if i < out.len() {
-            out[i] = *l;
-        }
-    }
-}
-
-// Shortens a clause at the front of `out`, and says how many literals are left.
-fn dropped(clause: &[u32], lost: u32, out: &mut [u32]) -> usize {
-    copy_to(clause, out);
-    if out.len() < clause.len() {
-        return 0;
-    }
-    clause::drop_literal(&mut out[0..clause.len()], Lit::from_word(lost))
 }
 
 // What a recorded value says.
 fn value(recorded: u32) -> Lbool {
-    match recorded {
-        0 => Lbool::FALSE,
-        1 => Lbool::TRUE,
-        _ => Lbool::NONE,
-    }
-}
-
-// The recorded values, by node.
-fn values_of(row: &Row) -> [Lbool; MOST] {
-    let mut values = [Lbool::NONE; MOST];
-    for (node, recorded) in row.values.iter().enumerate() {
-        if node < MOST {
-            values[node] = value(*recorded);
-        }
-    }
-    values
+    u8::try_from(recorded).map_or(Lbool::None, Lbool::from)
 }
 
 impl Counts {
@@ -108,24 +61,19 @@ impl Counts {
         }
     }
 
-    fn ask_subsumption(&mut self, row: &Row, part: bool, yes: bool) {
-        let answer = clause::ordered_subsume(row.a, row.b);
-        self.subsumed = self.subsumed.wrapping_add(u32::from(answer));
-        self.note(answer == part, "ordered_subsume");
-        let agrees = match clause::ordered_subsume_execpt_one(row.a, row.b) {
-            (answer, None) => answer == yes && row.odd.is_empty(),
-            (answer, Some(l)) => {
-                self.odd = self.odd.wrapping_add(1);
-                answer == yes && same(&[l.word], row.odd)
-            }
-        };
-        self.note(agrees, "ordered_subsume_execpt_one");
+    fn ask_subsumption(&mut self, row: &Row) {
+        let part = clause::ordered_subsume(row.a, row.b);
+        self.subsumed = self.subsumed.wrapping_add(u32::from(part));
+        self.note(part == row.part, "ordered_subsume");
+        let but_one = clause::ordered_subsume_execpt_one(row.a, row.b);
+        self.odd = self.odd.wrapping_add(u32::from(but_one.1.is_some()));
+        self.note(but_one == row.but_one, "ordered_subsume_execpt_one");
     }
 
-    fn ask_simplification(&mut self, row: &Row, there: bool) {
-        let values = values_of(row);
-        let mut out = [0u32; MOST];
-        let n = clause::ordered_simp(row.a, &values, &mut out);
+    fn ask_simplification(&mut self, alloc: Global, row: &Row) -> Result<(), AllocError> {
+        let values: Vec<Lbool> = row.values.iter().map(|v| value(*v)).collect(alloc)?;
+        let mut out = vec![in alloc; 0u32; row.a.len()]?;
+        let n = clause::ordered_simp(row.a, values.as_slice(), out.as_mut_slice());
         match n {
             Some(n) => {
                 self.simplified = self.simplified.wrapping_add(1);
@@ -133,82 +81,70 @@ impl Counts {
             }
             None => self.gone = self.gone.wrapping_add(1),
         }
-        let agrees = same_clause(n, &out, there, row.simplified);
-        self.note(agrees, "ordered_simp");
+        self.note(agrees(n, out.as_slice(), row.simplified), "ordered_simp");
+        Ok(())
     }
 
-    fn ask_resolvent(&mut self, row: &Row, there: bool) {
-        let [pivot, ..] = row.pivot else {
-            return;
+    fn ask_resolvent(&mut self, alloc: Global, row: &Row) -> Result<(), AllocError> {
+        let Some(pivot) = row.pivot else {
+            return Ok(());
         };
-        let mut out = [0u32; 2 * MOST];
-        let n = clause::ordered_resolvent(row.a, row.b, Lit::from_word(*pivot), &mut out);
+        let mut out = vec![in alloc; 0u32; row.a.len().saturating_add(row.b.len())]?;
+        let n = clause::ordered_resolvent(row.a, row.b, pivot, out.as_mut_slice());
         self.resolved = self.resolved.wrapping_add(1);
         self.tautologies = self.tautologies.wrapping_add(u32::from(n.is_none()));
-        let agrees = same_clause(n, &out, there, row.resolvent);
-        self.note(agrees, "ordered_resolvent");
+        self.note(
+            agrees(n, out.as_slice(), row.resolvent),
+            "ordered_resolvent",
+        );
+        Ok(())
     }
 
-    fn ask_loss(&mut self, row: &Row) {
-        let [lost, ..] = row.lost else {
-            return;
+    fn ask_loss(&mut self, alloc: Global, row: &Row) -> Result<(), AllocError> {
+        let Some(lost) = row.lost else {
+            return Ok(());
         };
-        let mut out = [0u32; MOST];
-        let n = dropped(row.a, *lost, &mut out);
-        let agrees = same_clause(Some(n), &out, true, row.rest);
-        self.note(agrees, "drop_literal");
+        let mut out = row.a.to_vec(alloc)?;
+        let n = clause::drop_literal(out.as_mut_slice(), lost);
+        self.note(
+            agrees(Some(n), out.as_slice(), Some(row.rest)),
+            "drop_literal",
+        );
+        Ok(())
     }
 
-    fn ask_signatures(&mut self, row: &Row, may_subsume: bool, may_fit: bool) {
+    fn ask_signatures(&mut self, row: &Row) {
         let a = Signature::of(row.a);
         let b = Signature::of(row.b);
-        let words = [
-            low(a.low),
-            high(a.low),
-            low(a.high),
-            high(a.high),
-            low(b.low),
-            high(b.low),
-            low(b.high),
-            high(b.high),
-        ];
-        self.note(same(&words, row.signs), "signature");
-        self.note(a.may_subsume(b) == may_subsume, "may_subsume");
+        self.note((a, b) == row.signatures, "signature");
+        self.note(a.may_subsume(b) == row.may_subsume, "may_subsume");
         let fits = a.may_fit(b);
         self.spared = self.spared.wrapping_add(u32::from(!fits));
-        self.note(fits == may_fit, "may_fit");
+        self.note(fits == row.may_fit, "may_fit");
     }
 
     // Asks for each answer to a pair.
-    fn ask(&mut self, row: &Row) {
-        let [part, yes, may_subsume, may_fit, left, resolved, ..] = row.flags else {
-            self.note(false, "a row without its flags");
-            return;
-        };
-        self.ask_subsumption(row, *part == 1, *yes == 1);
-        self.ask_simplification(row, *left == 1);
-        self.ask_resolvent(row, *resolved == 1);
-        self.ask_loss(row);
-        self.ask_signatures(row, *may_subsume == 1, *may_fit == 1);
+    fn ask(&mut self, alloc: Global, row: &Row) -> Result<(), AllocError> {
+        self.ask_subsumption(row);
+        self.ask_simplification(alloc, row)?;
+        self.ask_resolvent(alloc, row)?;
+        self.ask_loss(alloc, row)?;
+        self.ask_signatures(row);
+        Ok(())
     }
 
     // Asks what a line of the table asks.
-    pub fn ask_line(&mut self, line: &[u8]) {
-        let mut words = [0u32; 8 * MOST];
-        let n = numbers(line, &mut words);
-        match read_row(&words[0..n]) {
-            Some(row) => self.ask(&row),
-            None => self.note(false, "a row that ends too early"),
+    pub fn ask_line(&mut self, alloc: Global, line: &str) -> Result<(), AllocError> {
+        let words = numbers(alloc, line)?;
+        let row = match &words {
+            Some(words) => read_row(words.as_slice()),
+            None => Err("a row with a word that is no number"),
+        };
+        match row {
+            Ok(row) => self.ask(alloc, &row)?,
+            Err(flaw) => self.note(false, flaw),
         }
         self.pairs = self.pairs.wrapping_add(1);
+        Ok(())
     }
-}
-
-// The two words of a half of a signature.
-fn low(half: u64) -> u32 {
-    (half & 0xffff_ffff) as u32
-}
-
-fn high(half: u64) -> u32 {
-    (half >> 32) as u32
 }

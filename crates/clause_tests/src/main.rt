@@ -14,7 +14,7 @@ fn run(rt: &HostRuntime) -> anyhow::Result<()> {
     let mut counts = Counts::new();
     for line in rt.lines(rt.alloc()) {
         let line = line?;
-        counts.ask_line(line.as_bytes());
+        counts.ask_line(rt.alloc(), line.as_str())?;
     }
     println!(rt; "pairs {}", counts.pairs)?;
     println!(rt;

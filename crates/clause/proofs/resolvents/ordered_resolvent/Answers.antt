@@ -1,90 +1,106 @@
-use Rattle.std.proofs.Common.{◌+◌, ◌-◌, ◌≤◌, length, drop, ap, ◌∙◌, arith}
-use Rattle.network.specs.Assignments.{node}
+use Rattle.std.proofs.Common.{◌≡◌, ◌+◌, ◌<◌, ◌≤◌, ◌∷◌, length, drop, get_or, ap, ◌∙◌, arith, rules}
+use Rattle.std.proofs.lemmas.Bool.Decides.{nat_tests}
 use Rattle.network.specs.Clauses.{without}
-use Rattle.network.specs.Resolution.{resolve}
-use Rattle.clause.specs.Written.{after}
-use Rattle.clause.proofs.Fronts.{sofar_same, sofar_of, sofar_more, sofar_fails, sofar_copied, room_enough}
-use Rattle.clause.proofs.Merges.{left, resolve_left, Turn, turned, left_over, right_over, skip_left, skip_right, take_left, take_right, take_both, after_kept, after_twice}
+use Rattle.network.specs.Resolution.{merge}
+use Rattle.clause.proofs.Fronts.{room_enough, writes_same}
+use Rattle.clause.proofs.Rests.{behind}
+use Rattle.clause.proofs.Merges.{take_left, take_right, take_both, resolve_merge, merge_nothing, merging_of, merging_more, merging_fails, merging_finished, without_end}
 use Rattle.clause.proofs.resolvents.ordered_resolvent.Goals as goal
-use Rattle.clause.proofs.resolvents.ordered_resolvent.Goals.{Joined-c-d, then-c-d, else-c-d+then-d-c, else-c-d+else-d-c, then-loop-i-test+else-j-b, else-loop-i-test}
+use Rattle.clause.proofs.resolvents.ordered_resolvent.Goals.{Joined-rest-lt1-2, then-rest-lt1, in-len1-up+else-d-c, then-d-y, else-d-y, in-len1-up-rest+then-d-c-2, else-rest-lt1-2, else-rest-lt1-2-via-then-rest-lt1-2, else-rest-lt1-2-via-in-len1-up-rest+else-d-c-2}
 
-pub loop-i-preserved-then-c-x : goal.loop-i-preserved-then-c-x
-loop-i-preserved-then-c-x c =
-    let v = c.loop-i in
-    let a = c.args.a.now in
-    let b = c.args.b.now in
-    let x = c.args.pivot.word in
-    let y = c.opposite.result.word in
-    (omega arith, omega arith, omega arith, sofar_same v.invariant.3 (after v.last (left x y a b (v.i + 1) v.j)) (ap (after v.last) (skip_left x y a b v.i v.j (omega arith) c.if-c-x.true)))
-
-pub loop-i-preserved-then-d-y : goal.loop-i-preserved-then-d-y
-loop-i-preserved-then-d-y c =
-    let v = c.loop-i in
-    let a = c.args.a.now in
-    let b = c.args.b.now in
-    let x = c.args.pivot.word in
-    let y = c.opposite.result.word in
-    (omega arith, omega arith, omega arith, sofar_same v.invariant.3 (after v.last (left x y a b v.i (v.j + 1))) (ap (after v.last) (skip_right x y a b v.i v.j (omega arith) c.if-d-y.true)))
-
-pub overflow_add-i-then-c-d : goal.overflow_add-i-then-c-d
-overflow_add-i-then-c-d c = omega arith
-
-pub overflow_add-i-else-d-c : goal.overflow_add-i-else-d-c
-overflow_add-i-else-d-c c = omega arith
-
--- what one turn takes
-turn : (c : Joined-c-d) → Turn c.args.pivot.word c.opposite.result.word c.args.a.now c.args.b.now c.loop-i.i c.loop-i.j c.if-c-d.l c.if-c-d.i c.if-c-d.j
-turn c =
-    let x = c.args.pivot.word in
-    let y = c.opposite.result.word in
-    let a = c.args.a.now in
-    let b = c.args.b.now in
-    let i = c.loop-i.i in
-    let j = c.loop-i.j in
-    elim c.if-c-d.branch [
-      | then-c-d w ↦
-          turned _ _ _ w.l-is w.i-is w.j-is (take_left x y a b i j (omega arith) (omega arith) c.if-c-x.false c.if-d-y.false (λ e. omega (arith, c.type_inv.a i)) w.if-c-d.true)
-      | else-c-d+then-d-c w ↦
-          turned _ _ _ w.l-is w.i-is w.j-is (take_right x y a b i j (omega arith) (omega arith) c.if-c-x.false c.if-d-y.false (λ e. omega (arith, c.type_inv.b j)) w.if-d-c.true)
-      | else-c-d+else-d-c w ↦
-          turned _ _ _ w.l-is w.i-is w.j-is (take_both x y a b i j (omega arith) (omega arith) c.if-c-x.false c.if-d-y.false (λ e. omega (arith, c.type_inv.a i)) (omega (arith, w.if-c-d.false, w.if-d-c.false)))
+-- where the inner loop stops
+stops : (c : Joined-rest-lt1-2) → 0 < length c.loop-rest.rest.now → (get_or c.loop-rest.rest.now 0 0 ≡ c.opposite.result.word → ⊥) × (get_or c.args.a.now c.loop-c.c-index 0 ≤ get_or c.loop-rest.rest.now 0 0)
+stops c h =
+    elim c.if-rest-lt1.branch [
+      | then-rest-lt1 w ↦ absurd (grind (arith, nat_tests))
+      | in-len1-up+else-d-c w ↦ elim w.if-d-y.branch [ then-d-y w' ↦ absurd (grind (arith, nat_tests)) | else-d-y w' ↦ (w'.if-d-y.false, grind (arith, nat_tests)) ]
     ]
 
-pub returns-then-l-last : goal.returns-then-l-last
-returns-then-l-last c =
-    let x = c.args.pivot.word in
+-- the word of `a` comes next
+passes : (c : Joined-rest-lt1-2) → merge (get_or c.args.a.now c.loop-c.c-index 0 ∷ without c.args.pivot.word (drop (c.loop-c.c-index + 1) c.args.a.now)) (without c.opposite.result.word c.loop-rest.rest.now)
+    ≡ get_or c.args.a.now c.loop-c.c-index 0 ∷ merge (without c.args.pivot.word (drop (c.loop-c.c-index + 1) c.args.a.now)) (without c.opposite.result.word c.if-rest-lt1-2.rest.now)
+passes c =
     let y = c.opposite.result.word in
-    let a = c.args.a.now in
-    let b = c.args.b.now in
-    let v = c.loop-i in
-    let t = turn (goal.at.returns-then-l-last c).Joined-c-d in
-    room_enough (omega arith)
-    (sofar_fails (sofar_of v.invariant.3 (resolve x a b) (resolve_left x y a b c.opposite.ensures)) (length a + length b) (omega arith)
-    (ap (after v.last) t.takes ∙ after_twice v.last c.if-c-d.l (left x y a b c.if-c-d.i c.if-c-d.j) t.small c.if-l-last.true))
+    let k = get_or c.args.a.now c.loop-c.c-index 0 in
+    let rest = without c.args.pivot.word (drop (c.loop-c.c-index + 1) c.args.a.now) in
+    let D = c.loop-rest.rest.now in
+    elim c.if-rest-lt1-2.branch [
+      | in-len1-up-rest+then-d-c-2 w ↦ rw w.rest-is (take_both y k rest D (omega arith) (λ e. (stops c (omega arith)).0 (w.if-d-c-2.true ∙ e)) w.if-d-c-2.true)
+      | else-rest-lt1-2 w ↦
+          rw w.rest-is
+          (take_left y k rest D (λ h.
+          let s = stops c h in (
+            s.0,
+            elim w.else-rest-lt1-2.branch [
+              | else-rest-lt1-2-via-then-rest-lt1-2 w' ↦ absurd (grind (arith, nat_tests))
+              | else-rest-lt1-2-via-in-len1-up-rest+else-d-c-2 w' ↦ omega (arith, s.1, w'.if-d-c-2.false)
+            ],
+          )))
+    ]
 
-pub loop-i-preserved : goal.loop-i-preserved
-loop-i-preserved c =
-    let x = c.args.pivot.word in
-    let y = c.opposite.result.word in
-    let a = c.args.a.now in
-    let b = c.args.b.now in
-    let v = c.loop-i in
-    let l = c.if-c-d.l in
-    let rest = left x y a b c.if-c-d.i c.if-c-d.j in
-    let t = turn (goal.at.loop-i-preserved c).Joined-c-d in
-    (t.in_a, t.in_b, omega (arith, t.more), sofar_more v.invariant.3 (after (node l) rest) l (omega arith) (ap (after v.last) t.takes ∙ after_kept v.last l rest t.small c.if-l-last.false))
+no_longer : (c : Joined-rest-lt1-2) → length c.if-rest-lt1-2.rest.now ≤ length c.loop-rest.rest.now
+no_longer c = elim c.if-rest-lt1-2.branch [ in-len1-up-rest+then-d-c-2 w ↦ rw w.rest-is (omega arith) | else-rest-lt1-2 w ↦ rw w.rest-is (omega arith) ]
 
-pub returns-then-i-a : goal.returns-then-i-a
-returns-then-i-a c =
-    let x = c.args.pivot.word in
-    let y = c.opposite.result.word in
+pub returns-in_err-push : goal.returns-in_err-push
+returns-in_err-push c =
     let a = c.args.a.now in
     let b = c.args.b.now in
-    let v = c.loop-i in
-    let over : length b ≤ v.j = elim c.loop-i-test.branch [ then-loop-i-test+else-j-b w ↦ omega (arith, w.if-j-b.false) | else-loop-i-test w ↦ omega (arith, w.loop-i-test.false) ] in
-    room_enough (omega arith)
-    (sofar_copied (sofar_of v.invariant.3 (resolve x a b) (resolve_left x y a b c.opposite.ensures)) (length a + length b) (v.n + (length a - v.i)) (after v.last (without x (drop v.i a)))
-    c.copy_rest.new.out c.copy_rest.result (omega arith) (omega arith) (ap (after v.last) (left_over x y a b v.i v.j over)) c.copy_rest.ensures)
+    let y = c.opposite.result.word in
+    let v = c.loop-rest in
+    let D = v.rest.now in
+    let d = get_or D 0 0 in
+    let k = get_or a c.loop-c.c-index 0 in
+    let C = without c.args.pivot.word (drop (c.loop-c.c-index + 1) a) in
+    let rest = merge (k ∷ C) (without y (behind D)) in
+    let less : d < k = elim c.if-d-y.branch [ then-d-y w ↦ absurd (c.if-d-y-2.true w.if-d-y.true) | else-d-y w ↦ grind (arith, nat_tests) ] in
+    writes_same c.push.new.self.out.now (search rules)
+    (rw (c.from_residual.ensures, resolve_merge c.args.pivot.word y a b c.opposite.ensures)
+    (room_enough (omega arith)
+    (merging_fails d rest (merging_of (d ∷ rest) (take_right y k C D (omega arith) c.if-d-y-2.true less) v.invariant.so_far) (length a + length b) c.push.new.self.out.now (omega arith) c.in_err-push.ensures.added)))
+
+pub loop-rest-preserved-in_ok-push : goal.loop-rest-preserved-in_ok-push
+loop-rest-preserved-in_ok-push c =
+    let a = c.args.a.now in
+    let y = c.opposite.result.word in
+    let v = c.loop-rest in
+    let D = v.rest.now in
+    let d = get_or D 0 0 in
+    let k = get_or a c.loop-c.c-index 0 in
+    let C = without c.args.pivot.word (drop (c.loop-c.c-index + 1) a) in
+    let rest = merge (k ∷ C) (without y (behind D)) in
+    let less : d < k = elim c.if-d-y.branch [ then-d-y w ↦ absurd (c.if-d-y-2.true w.if-d-y.true) | else-d-y w ↦ grind (arith, nat_tests) ] in
+    record {
+      same_reference = cc (c.in_ok-push.ensures.same_reference);
+      few = omega (arith, c.in_ok-push.ensures.added.1);
+      so_far =
+          merging_more d rest (merging_of (d ∷ rest) (take_right y k C D (omega arith) c.if-d-y-2.true less) v.invariant.so_far) c.push.new.self
+          (omega (arith, v.invariant.so_far.same_length)) c.in_ok-push.ensures.added;
+    }
+
+pub returns-in_err-push-2 : goal.returns-in_err-push-2
+returns-in_err-push-2 c =
+    let a = c.args.a.now in
+    let b = c.args.b.now in
+    let v = c.loop-rest in
+    let k = get_or a c.loop-c.c-index 0 in
+    let rest = merge (without c.args.pivot.word (drop (c.loop-c.c-index + 1) a)) (without c.opposite.result.word c.if-rest-lt1-2.rest.now) in
+    writes_same c.push-in-loop-c.new.self.out.now (search rules)
+    (rw (c.from_residual-in_err-push-2.ensures, resolve_merge c.args.pivot.word c.opposite.result.word a b c.opposite.ensures)
+    (room_enough (omega arith)
+    (merging_fails k rest (merging_of (k ∷ rest) (passes (goal.at.returns-in_err-push-2 c).Joined-rest-lt1-2) v.invariant.so_far) (length a + length b)
+    c.push-in-loop-c.new.self.out.now (omega arith) c.in_err-push-2.ensures.added)))
+
+pub loop-c-preserved : goal.loop-c-preserved
+loop-c-preserved c =
+    let a = c.args.a.now in
+    let v = c.loop-rest in
+    let k = get_or a c.loop-c.c-index 0 in
+    let rest = merge (without c.args.pivot.word (drop (c.loop-c.c-index + 1) a)) (without c.opposite.result.word c.if-rest-lt1-2.rest.now) in
+    record {
+      same_reference = cc (c.in_ok-push-2.ensures.same_reference);
+      few = omega (arith, c.in_ok-push-2.ensures.added.1, no_longer (goal.at.loop-c-preserved c).Joined-rest-lt1-2);
+      so_far = merging_more k rest (merging_of (k ∷ rest) (passes (goal.at.loop-c-preserved c).Joined-rest-lt1-2) v.invariant.so_far) c.push-in-loop-c.new.self (omega (arith, v.invariant.so_far.same_length)) c.in_ok-push-2.ensures.added;
+    }
 
 pub returns : goal.returns
 returns c =
@@ -92,7 +108,10 @@ returns c =
     let y = c.opposite.result.word in
     let a = c.args.a.now in
     let b = c.args.b.now in
-    let v = c.loop-i in
-    room_enough (omega arith)
-    (sofar_copied (sofar_of v.invariant.3 (resolve x a b) (resolve_left x y a b c.opposite.ensures)) (length a + length b) (v.n + (length b - v.j)) (after v.last (without y (drop v.j b)))
-    c.copy_rest-2.new.out c.copy_rest-2.result (omega arith) (omega arith) (ap (after v.last) (right_over x y a b v.i v.j (omega arith))) c.copy_rest-2.ensures)
+    let v = c.loop-c in
+    let D = without y v.rest.now in
+    writes_same c.finish.new.self.out.now (search rules)
+    (rw (resolve_merge x y a b c.opposite.ensures)
+    (room_enough (omega arith)
+    (merging_finished c.finish.result c.finish.new.self.out.now (length a + length b) (v.merged.len + length v.rest.now) (omega arith) (omega arith)
+    (merging_of D (ap (λ C. merge C D) (without_end x a v.c-index (omega arith)) ∙ merge_nothing y v.rest.now) v.invariant.so_far) c.finish.ensures.added)))

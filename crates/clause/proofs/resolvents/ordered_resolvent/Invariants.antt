@@ -1,13 +1,24 @@
-use Rattle.std.proofs.Common.{◌+◌, ◌-◌, ◌≤◌, length}
-use Rattle.clause.specs.Written.{after}
-use Rattle.clause.proofs.Fronts.{Sofar}
-use Rattle.clause.proofs.Merges.{left}
+use Rattle.std.proofs.Common.{◌≡◌, ◌+◌, ◌-◌, ◌≤◌, ◌∷◌, length, drop, get_or}
+use Rattle.network.specs.Clauses.{without}
+use Rattle.network.specs.Resolution.{merge, unless_twice}
+use Rattle.clause.proofs.Merges.{Merging}
 use Rattle.clause.proofs.resolvents.ordered_resolvent.Given as goal
 
-abbrev pub invariant-loop-i : goal.invariant-loop-i
-invariant-loop-i l =
-    (l.i ≤ length l.a) × (l.j ≤ length l.b) × (l.n ≤ l.i + l.j)
-    × Sofar (after 4294967295 (left l.x l.y l.a l.b 0 0)) (after l.last (left l.x l.y l.a l.b l.i l.j)) l.initial.out l.out l.n
+abbrev pub invariant-loop-c : goal.invariant-loop-c
+invariant-loop-c l = record {
+  same_reference : l.merged.out.ghost_name ≡ l.initial.merged.out.ghost_name;
+  few : l.merged.len + (length l.a - l.c-index) + length l.rest ≤ length l.a + length l.b;
+  so_far : Merging (unless_twice (merge (without l.x l.a) (without l.y l.b))) (merge (without l.x (drop l.c-index l.a)) (without l.y l.rest)) l.fn.out l.merged;
+}
 
-abbrev pub decreases-loop-i : goal.decreases-loop-i
-decreases-loop-i l = length l.a + length l.b - (l.i + l.j)
+abbrev pub invariant-loop-rest : goal.invariant-loop-rest
+invariant-loop-rest l = record {
+  same_reference : l.merged.out.ghost_name ≡ l.initial.merged.out.ghost_name;
+  few : l.merged.len + (length l.a - l.c-index) + length l.rest ≤ length l.a + length l.b;
+  so_far :
+      Merging (unless_twice (merge (without l.x l.a) (without l.y l.b))) (merge (get_or l.a l.c-index 0 ∷ without l.x (drop (l.c-index + 1) l.a)) (without l.y l.rest)) l.fn.out
+      l.merged;
+}
+
+abbrev pub decreases-loop-rest : goal.decreases-loop-rest
+decreases-loop-rest l = length l.rest

@@ -1,42 +1,35 @@
-use Rattle.std.proofs.Common.{◌≡◌, ◌+◌, length, get_or, drop, sym, ap, ◌∙◌, arith}
+use Rattle.std.proofs.Common.{◌≡◌, ◌+◌, length, get_or, drop, true, false, Some, sym, ap, ◌∙◌, arith}
 use Rattle.network.specs.Values.{literal, simplified}
 use Rattle.clause.specs.Types.{told, values_of}
-use Rattle.clause.proofs.Fronts.{sofar_same, sofar_more, sofar_fails, sofar_ends, room_enough, room_short}
-use Rattle.clause.proofs.Simps.{simp_true, simp_false, simp_kept, simp_end}
+use Rattle.clause.proofs.Fronts.{sofar_same, sofar_more, sofar_fails, sofar_ends, room_enough}
+use Rattle.clause.proofs.Simps.{simp_more, simp_kept, simp_end}
 use Rattle.clause.proofs.values.ordered_simp.Goals as goal
-use Rattle.clause.proofs.values.ordered_simp.Goals.{then-not-is_false, else-not-is_false}
+use Rattle.clause.proofs.values.ordered_simp.Goals.{After-value_of, in-False, in-None}
 
-pub returns-then-out-clause : goal.returns-then-out-clause
-returns-then-out-clause c = room_short c.if-out-clause.true
+-- what is known of a literal
+known : (c : After-value_of) → literal (values_of c.args.values.now) (get_or c.args.clause.now c.loop-l.l-index 0) ≡ told c.value_of.result
+known c = sym (c.value_of.ensures ∙ ap (literal (values_of c.args.values.now)) c.from.ensures)
 
-pub returns-then-is_true : goal.returns-then-is_true
-returns-then-is_true c =
+pub returns-in-True : goal.returns-in-True
+returns-in-True c =
     let C = c.args.clause.now in
     let V = values_of c.args.values.now in
     let l = c.loop-l in
     room_enough (omega arith)
-    (sofar_fails l.invariant.1 (length C) (omega arith)
-    (simp_true V C l.l-index (told c.value_of-value.result.byte) (omega arith) (c.value_of-value.ensures ∙ ap (literal V) c.from_word.ensures) (sym c.is_true.ensures ∙ c.if-is_true.true)))
+    (sofar_fails l.invariant.1 (length C) (omega arith) (simp_more V C l.l-index (Some true) (omega arith) (known (goal.at.returns-in-True c).After-value_of ∙ ap told c.in-True.is)))
 
 pub loop-l-preserved : goal.loop-l-preserved
 loop-l-preserved c =
     let C = c.args.clause.now in
     let V = values_of c.args.values.now in
     let l = c.loop-l in
-    let o = told c.value_of-value.result.byte in
-    let says : o ≡ literal V (get_or C l.l-index 0) = c.value_of-value.ensures ∙ ap (literal V) c.from_word.ensures in
+    let k = known (goal.at.loop-l-preserved c).After-value_of in
     let next = simplified V (drop (l.l-index + 1) C) in
-    elim c.if-not-is_false.branch [
-      | then-not-is_false w ↦ (
-        omega (arith, w.n-is),
-        rw (w.out-is, w.n-is)
-            (sofar_more l.invariant.1 next (get_or C l.l-index 0) (omega arith)
-            (simp_kept V C l.l-index o (omega arith) says (sym c.is_true.ensures ∙ c.if-is_true.false) (sym c.is_false.ensures ∙ w.if-not-is_false.true))),
-      )
-      | else-not-is_false w ↦ (
-        omega (arith, w.n-is),
-        rw (w.out-is, w.n-is) (sofar_same l.invariant.1 next (simp_false V C l.l-index o (omega arith) says (sym c.is_false.ensures ∙ w.if-not-is_false.false))),
-      )
+    elim c.match-value_of.branch [
+      | in-False w ↦ rw (w.out-is, w.n-is) (omega arith, sofar_same l.invariant.1 next (simp_more V C l.l-index (Some false) (omega arith) (k ∙ ap told w.in-False.is)))
+      | in-None w ↦
+          rw (w.out-is, w.n-is)
+              (omega arith, sofar_more l.invariant.1 next (get_or C l.l-index 0) (omega arith) (simp_kept V C l.l-index (omega arith) (k ∙ ap told w.in-None.is)))
     ]
 
 pub returns : goal.returns
