@@ -13,4 +13,5 @@ mod sort;
 mod turns;
 mod words;
 
-pub use simplify::lemmas_subsume_simplify;
+pub use simplify::Lemmas;
+pub use words::Clauses;

@@ -1,6 +1,6 @@
 use Rattle.std.proofs.Common.{arith}
 use Rattle.lemmas.proofs.Sweeps.{run_end, run_again, run_on, turned_less}
-use Rattle.lemmas.proofs.turns.run.Goals as goal
+use Rattle.lemmas.proofs.words.Clauses.run.Goals as goal
 
 pub loop-at-preserved-then-not-again : goal.loop-at-preserved-then-not-again
 loop-at-preserved-then-not-again c = run_on c.loop-at.invariant (omega arith) c.sweep-kept.ensures c.if-not-again.true
