@@ -5,7 +5,7 @@ use Rattle.std.specs.List.Sorted.{IsPermutation}
 use Rattle.network.specs.Lemmas.{swept, lemmas_from, lemmas}
 use Rattle.queue.specs.Keys.{by_key, length_of}
 use Rattle.queue.specs.Pops.{Ordered}
-use Rattle.lemmas.specs.Words.{lemma_at, named, SameLent, Stands, Wrote}
+use Rattle.lemmas.specs.Words.{lemma_at, named, Stands, Wrote}
 use Rattle.lemmas.specs.declared.words.Clauses.{Clauses}
 use Rattle.lemmas.specs.declared.simplify.Lemmas.{Lemmas}
 
@@ -51,22 +51,26 @@ pub record Sorted (n : ℕ) (L O O' : List ℕ) : Type 0 where
 
 -- the words hold n clauses of at most 32 literals each, with a place in the line and working words for each
 pub record Admits (n : ℕ) (w : Lemmas) : Type 0 where
-  pub lengths : n ≤ length w.clauses.lengths.now
-  pub literals : 32 * n ≤ length w.clauses.literals.now
+  pub lengths : n ≤ length w.lengths.now
+  pub literals : 32 * n ≤ length w.literals.now
   pub order : n ≤ length w.order.now
   pub entries : n ≤ length w.entries.now
   pub places : n ≤ length w.places.now
-  pub short : (k : ℕ) → k < n → slice_index w.clauses.lengths.now k ≤ 32
+  pub short : (k : ℕ) → k < n → slice_index w.lengths.now k ≤ 32
+
+-- the clauses that stand in the words
+abbrev pub clauses_of : Lemmas → Clauses
+clauses_of w = record { lengths = w.lengths; literals = w.literals }
 
 -- of the n clauses by arrival, m are left: the first m of the line name `lemmas` of them, each once, and no word of another clause has
 -- changed
 pub record Simplified (n m : ℕ) (w w' : Lemmas) : Type 0 where
   pub high : m ≤ n
-  pub simplified : named w'.clauses (take m w'.order.now) ≡ lemmas (named w.clauses (range_with_len 0 n))
-  pub lined : Lined w'.clauses w'.order.now m
+  pub simplified : named (clauses_of w') (take m w'.order.now) ≡ lemmas (named (clauses_of w) (range_with_len 0 n))
+  pub lined : Lined (clauses_of w') w'.order.now m
   pub below : (p : ℕ) → p < m → slice_index w'.order.now p < n
   pub back : drop n w'.order.now ≡ drop n w.order.now
-  pub wrote : Wrote (λ k. k < n) w.clauses w'.clauses
-  pub order : SameLent w.order w'.order
-  pub entries : SameLent w.entries w'.entries
-  pub places : SameLent w.places w'.places
+  pub wrote : Wrote (λ k. k < n) (clauses_of w) (clauses_of w')
+  pub order : length w'.order.now ≡ length w.order.now
+  pub entries : length w'.entries.now ≡ length w.entries.now
+  pub places : length w'.places.now ≡ length w.places.now

@@ -14,4 +14,3 @@ mod turns;
 mod words;
 
 pub use simplify::Lemmas;
-pub use words::Clauses;

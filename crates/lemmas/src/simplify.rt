@@ -5,11 +5,12 @@ ghost use Rattle.std.specs.Prelude.{◌≡◌, ◌≤◌, MatchOption, is_some, 
 use crate::sort::sort;
 use crate::words::{Clauses, WIDTH};
 
-// The words that a simplification is lent. Each slice has a lifetime of its own, since they are lent on side by side.
+// The words that a simplification is lent.
 #[derive(Drop)]
-pub struct Lemmas<'c, 'o, 'e, 'p> {
-    // The clauses by arrival.
-    pub clauses: Clauses<'c>,
+pub struct Lemmas<'l, 'c, 'o, 'e, 'p> {
+    // Clause k has its length at `lengths[k]` and its literals from `literals[32 * k]` on.
+    pub lengths: &'l mut [u32],
+    pub literals: &'c mut [u32],
     // The line of the numbers of those that are left.
     pub order: &'o mut [u32],
     // Working words, one of each for a clause.
@@ -24,38 +25,40 @@ fn are_short(lengths: &[u32]) -> bool
     lengths.iter().all(|&long| long as usize <= WIDTH)
 }
 
-impl Lemmas<'_, '_, '_, '_> {
+impl Lemmas<'_, '_, '_, '_, '_> {
     // Whether there are words for `count` clauses, each of at most 32 literals.
     fn admits(&self, count: u32) -> bool
         ensures { Decides result (Admits count self.now) }
     {
         let n = count as usize;
-        let lengths = &self.clauses.lengths;
-        n <= lengths.len()
-            && n <= self.clauses.literals.len() / WIDTH
+        n <= self.lengths.len()
+            && n <= self.literals.len() / WIDTH
             && n <= self.order.len()
             && n <= self.entries.len()
             && n <= self.places.len()
-            && are_short(&lengths[..n])
+            && are_short(&self.lengths[..n])
     }
 
     // Simplifies the first `count` clauses among themselves. Answers how many are left, r, and `order[0..r]` names them, each once, by the
     // length that they came with, then by arrival. The answer is none, and nothing has changed, where there are too few words or a clause
-    // is longer than 32 literals.
+    // is longer than 32 literals. The same words stay lent.
     pub fn lemmas_subsume_simplify(&mut self, count: u32) -> Option<usize>
         ensures when { Decides (is_some result) (Admits count self.old) }
         ensures answer { MatchOption result (self.new ≡ self.old) (λ m. Simplified count m self.old self.new) }
+        ensures lengths { self.new.lengths.ghost_name ≡ self.old.lengths.ghost_name }
+        ensures literals { self.new.literals.ghost_name ≡ self.old.literals.ghost_name }
+        ensures order { self.new.order.ghost_name ≡ self.old.order.ghost_name }
+        ensures entries { self.new.entries.ghost_name ≡ self.old.entries.ghost_name }
+        ensures places { self.new.places.ghost_name ≡ self.old.places.ghost_name }
     {
         if !self.admits(count) {
             return None;
         }
-        let Lemmas {
-            clauses,
-            order,
-            entries,
-            places,
-        } = self;
-        sort(clauses, count, order, entries, places);
-        Some(clauses.run(order, count as usize))
+        let mut clauses = Clauses {
+            lengths: &mut *self.lengths,
+            literals: &mut *self.literals,
+        };
+        sort(&clauses, count, self.order, self.entries, self.places);
+        Some(clauses.run(self.order, count as usize))
     }
 }

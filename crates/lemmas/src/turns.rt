@@ -1,6 +1,6 @@
 // The turns of the clauses in a line, each against the later ones.
 ghost use Rattle.lemmas.specs.Lines.{Lined, Turned, Ran};
-ghost use Rattle.std.specs.Prelude.{◌<◌};
+ghost use Rattle.std.specs.Prelude.{◌≡◌, ◌<◌};
 
 use crate::words::{Clauses, Meeting};
 
@@ -42,7 +42,9 @@ impl Clauses<'_> {
     // The turns of the first `n` clauses of the line, each once more while it loses literals: how many are left.
     pub(crate) fn run(&mut self, order: &mut [u32], n: usize) -> usize
         requires { Lined self.old order.old n }
-        ensures { Ran n result self.old order.old self.new order.new }
+        ensures ran { Ran n result self.old order.old self.new order.new }
+        ensures lengths { self.new.lengths.ghost_name ≡ self.old.lengths.ghost_name }
+        ensures literals { self.new.literals.ghost_name ≡ self.old.literals.ghost_name }
     {
         let mut at = 0;
         let mut left = n;

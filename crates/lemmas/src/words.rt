@@ -11,9 +11,9 @@ pub(crate) const WIDTH: usize = 32;
 
 // Clauses in lent words: clause k has its length at `lengths[k]` and its literals from `literals[32 * k]` on.
 #[derive(Drop)]
-pub struct Clauses<'w> {
-    pub lengths: &'w mut [u32],
-    pub literals: &'w mut [u32],
+pub(crate) struct Clauses<'w> {
+    pub(crate) lengths: &'w mut [u32],
+    pub(crate) literals: &'w mut [u32],
 }
 
 // What became of two clauses that met.

@@ -3,7 +3,7 @@
 
 #[cfg(test)]
 mod tests {
-    use lemmas::{Clauses, Lemmas};
+    use lemmas::Lemmas;
     use queue::{Queue, Resolvents, WaitingNodes};
 
     // {2,6} and {3,6} become {6}, which {6,8} has, and {5,7,9} stays.
@@ -22,10 +22,8 @@ mod tests {
         literals[97] = 8;
         let mut order = [9u32; 4];
         let mut words = Lemmas {
-            clauses: Clauses {
-                lengths: &mut lengths,
-                literals: &mut literals,
-            },
+            lengths: &mut lengths,
+            literals: &mut literals,
             order: &mut order,
             entries: &mut [0u32; 4],
             places: &mut [0u32; 4],
@@ -44,10 +42,8 @@ mod tests {
     fn short_words_are_refused(rt: HostRuntime) {
         let mut order = [7u32; 1];
         let mut words = Lemmas {
-            clauses: Clauses {
-                lengths: &mut [1, 1],
-                literals: &mut [2u32; 64],
-            },
+            lengths: &mut [1, 1],
+            literals: &mut [2u32; 64],
             order: &mut order,
             entries: &mut [0u32; 2],
             places: &mut [0u32; 2],

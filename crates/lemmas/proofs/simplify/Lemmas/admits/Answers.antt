@@ -2,9 +2,9 @@ use Rattle.std.proofs.Common.{◌<◌, arith}
 use Rattle.std.proofs.lemmas.List.{get_or-take, length-take-le}
 use Rattle.lemmas.proofs.simplify.Lemmas.admits.Goals as goal
 
-pub returns-then-n-self-4 : goal.returns-then-n-self-4
-returns-then-n-self-4 c =
-    let L = c.args.self.now.clauses.lengths.now in
+pub returns-then-n-self-5 : goal.returns-then-n-self-5
+returns-then-n-self-5 c =
+    let L = c.args.self.now.lengths.now in
     let n = c.args.count in
     let h = c.are_short.ensures in
     let long = length-take-le n L (omega arith) in (

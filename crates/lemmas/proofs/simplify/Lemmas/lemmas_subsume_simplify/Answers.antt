@@ -1,11 +1,10 @@
-use Rattle.std.proofs.Common.{refl, ◌∙◌}
-use Rattle.lemmas.proofs.Sorts.{sorted_lined, simplified_all}
+use Rattle.std.proofs.Common.{rules, refl, ◌∙◌}
+use Rattle.lemmas.proofs.Sorts.{sorted_lined, lined_alike, simplified_all}
 use Rattle.lemmas.proofs.simplify.Lemmas.lemmas_subsume_simplify.Goals as goal
 
 pub run-requires : goal.run-requires
-run-requires c = let a = c.admits.ensures.0 c.if-not-admits.false in sorted_lined a c.sort.ensures c.sort.auto.order
+run-requires c = lined_alike _ _ refl refl (sorted_lined (c.admits.ensures.0 c.if-not-admits.false) c.sort.ensures c.sort.auto.order)
 
-pub returns : goal.returns
-returns c =
-    let a = c.admits.ensures.0 c.if-not-admits.false in
-    record { when = (λ _. a, λ _. refl); answer = simplified_all a c.sort.ensures c.sort.auto.order c.run.ensures (refl, c.run.auto.order ∙ c.sort.auto.order) (refl, c.sort.auto.entries) (refl, c.sort.auto.places) }
+pub returns-clause-answer : goal.returns-clause-answer
+returns-clause-answer c =
+    simplified_all (c.admits.ensures.0 c.if-not-admits.false) c.sort.ensures c.sort.auto.order refl refl (search rules) (search rules) refl refl (c.run.auto.order ∙ c.sort.auto.order) c.sort.auto.entries c.sort.auto.places c.run.ensures.ran

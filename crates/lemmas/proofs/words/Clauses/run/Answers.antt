@@ -13,5 +13,5 @@ loop-at-smaller c =
 pub loop-at-preserved : goal.loop-at-preserved
 loop-at-preserved c = run_again c.loop-at.invariant (omega arith) c.sweep-kept.ensures c.if-not-again.false
 
-pub returns : goal.returns
-returns c = run_end c.loop-at.invariant c.requires.within (omega arith)
+pub returns-clause-ran : goal.returns-clause-ran
+returns-clause-ran c = run_end c.loop-at.invariant c.requires.within (omega arith)
