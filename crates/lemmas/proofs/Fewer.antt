@@ -1,11 +1,12 @@
 -- Turns make what is left shorter, so that more turns than clauses change nothing. Assumes nothing.
-use Rattle.std.proofs.Common.{◌≡◌, ℕ, zero, suc, ◌<◌, ◌≤◌, Bool, true, false, cond, ◌||◌, eqb, List, [], ◌∷◌, ◌++◌, length, Some, None, Option, sym, refl, ap, ◌∙◌, append_assoc, append-nil, arith}
+use Rattle.std.proofs.Common.{◌≡◌, ℕ, zero, suc, ◌<◌, ◌≤◌, Bool, true, false, cond, eqb, List, [], ◌∷◌, ◌++◌, length, Some, None, Option, sym, refl, ap, ◌∙◌, append_assoc, append-nil, arith}
 use Rattle.std.proofs.lemmas.Bool.{cond_both, true≢false}
 use Rattle.network.specs.Assignments.{opposite}
 use Rattle.network.specs.Clauses.{without}
 use Rattle.network.specs.Subsumption.{fits}
 use Rattle.network.specs.Lemmas.{Swept, keeping, once_more, met, swept, turned, lemmas_from}
-use Rattle.lemmas.specs.Turns.{staying, noted}
+use Rattle.lemmas.specs.declared.words.Meeting.TheVariants.{Stays, Joins}
+use Rattle.lemmas.specs.Turns.{after}
 
 -- at most n are left, and fewer if the turn comes again
 pub record Short (n : ℕ) (s : Swept) : Type 0 where
@@ -73,21 +74,22 @@ pub swept_more : (D : List ℕ) (Ds : List (List ℕ)) (C : List ℕ) → swept 
 unfolding swept
 swept_more D Ds C = refl
 
+-- the clause whose turn it is has lost a literal so far, or not
+abbrev pub noted : Bool → Swept → Swept
+noted true s = once_more s
+noted false s = s
+
 module _ (Ds : List (List ℕ)) (D : List ℕ) (s : Swept) where
   longer : Ds ++ (D ∷ s.rest) ≡ (Ds ++ D ∷ []) ++ s.rest
   longer = sym (append_assoc Ds (D ∷ []) s.rest)
 
-  pub one_stays : (g l : Bool) → noted g (behind Ds (noted l (staying true D s))) ≡ noted (g || l) (behind (Ds ++ D ∷ []) s)
-  one_stays true true = λ i. record { first = s.first; again = true; rest = longer i }
-  one_stays true false = λ i. record { first = s.first; again = true; rest = longer i }
-  one_stays false true = λ i. record { first = s.first; again = true; rest = longer i }
-  one_stays false false = λ i. record { first = s.first; again = s.again; rest = longer i }
+  pub one_stays : (g : Bool) → noted g (behind Ds (after Stays D s)) ≡ noted g (behind (Ds ++ D ∷ []) s)
+  one_stays true = λ i. record { first = s.first; again = true; rest = longer i }
+  one_stays false = λ i. record { first = s.first; again = s.again; rest = longer i }
 
-  pub one_goes : (g l : Bool) → noted g (behind Ds (noted l (staying false D s))) ≡ noted (g || l) (behind Ds s)
-  one_goes true true = refl
-  one_goes true false = refl
-  one_goes false true = refl
-  one_goes false false = refl
+  pub one_joins : (g : Bool) → noted g (behind Ds (after Joins D s)) ≡ noted true (behind Ds s)
+  one_joins true = refl
+  one_joins false = refl
 
 pub all_met : (g : Bool) (C : List ℕ) (Ds : List (List ℕ)) → noted g (behind Ds (record { first = C; again = false; rest = [] })) ≡ record { first = C; again = g; rest = Ds }
 all_met true C Ds = λ i. record { first = C; again = true; rest = append-nil Ds i }

@@ -1,15 +1,18 @@
 -- One clause's turn, step by step, and the turns one after the other. Assumes nothing.
-use Rattle.std.proofs.Common.{◌≡◌, ℕ, ◌+◌, ◌-◌, ◌<◌, ◌≤◌, Bool, true, false, cond, ◌||◌, ◌⊎◌, List, [], ◌∷◌, ◌++◌, map, length, get_or, take, drop, set, sym, refl, ap, ◌∙◌, subst, ⊎_elim, append_assoc, append-nil, arith, length-set}
+use Rattle.std.proofs.Common.{◌≡◌, ℕ, ◌+◌, ◌-◌, ◌<◌, ◌≤◌, Bool, true, false, cond, ◌⊎◌, List, [], ◌∷◌, ◌++◌, map, length, get_or, take, drop, set, sym, refl, ap, ◌∙◌, subst, ⊎_elim, append_assoc, append-nil, arith, length-set}
 use Rattle.std.specs.List.{AllByRecursion}
 use Rattle.std.proofs.ByRecursion.{All-from_get_or}
 use Rattle.std.proofs.lemmas.List.{length-take, length-take-le, length-drop, length-map, get_or-take, get_or-drop, get_or-set_same, get_or-set_other, take_more, take_more_set, take-set-le, take-take, drop_more, drop_all, drop-drop, drop-append-le, drop-set-lt, map_push}
 use Rattle.std.proofs.lemmas.Bool.{cases_eq}
 use Rattle.network.specs.Lemmas.{swept, turned, lemmas_from}
 use Rattle.lemmas.specs.Words.{lemma_at, named, Stands, Wrote}
-use Rattle.lemmas.specs.Turns.{staying, noted, Meets}
+use Rattle.lemmas.specs.declared.words.Clauses.{Clauses}
+use Rattle.lemmas.specs.declared.words.Meeting.{Meeting}
+use Rattle.lemmas.specs.declared.words.Meeting.TheVariants.{Stays, Goes, Joins}
+use Rattle.lemmas.specs.Turns.{after, Meets}
 use Rattle.lemmas.specs.Lines.{Lined, At, From, Turned, Ran}
 use Rattle.lemmas.proofs.Writes.{wrote_none, wrote_trans, wrote_weaker, wrote_other, get_or_from_take, get_or_from_drop}
-use Rattle.lemmas.proofs.Fewer.{Short, swept_short, full, full_none, full_step, behind, swept_none, swept_more, one_stays, one_goes, all_met}
+use Rattle.lemmas.proofs.Fewer.{Short, swept_short, full, full_none, full_step, behind, swept_none, swept_more, noted, one_stays, one_joins, all_met}
 
 -- ---- the clauses that a part of the line names
 
@@ -44,7 +47,7 @@ drop_later n m xs ys h e =
 -- ---- one clause's turn
 
 -- the turn of the clause at `at` has come to the place j, and the first `left` places of the line are those left so far
-pub record Sweeping (at n : ℕ) (L₀ W₀ O₀ L W O : List ℕ) (j left : ℕ) (again : Bool) : Type 0 where
+pub record Sweeping (at n : ℕ) (C₀ : Clauses) (O₀ : List ℕ) (C : Clauses) (O : List ℕ) (j left : ℕ) (again : Bool) : Type 0 where
   pub low : at < left
   pub high : left ≤ j
   pub long : length O ≡ length O₀
@@ -52,11 +55,11 @@ pub record Sweeping (at n : ℕ) (L₀ W₀ O₀ L W O : List ℕ) (j left : ℕ
   pub back : drop j O ≡ drop j O₀
   pub from : From O₀ j O left
   pub once : (p q : ℕ) → p < left → q < left → get_or O p 0 ≡ get_or O q 0 → p ≡ q
-  pub wrote : Wrote (At O₀ at n) L₀ W₀ L W
-  pub whole : swept (named L₀ W₀ (drop (at + 1) (take n O₀))) (lemma_at L₀ W₀ (get_or O₀ at 0)) ≡ noted again (behind (named L W (drop (at + 1) (take left O))) (swept (named L W (drop j (take n O₀))) (lemma_at L W (get_or O₀ at 0))))
+  pub wrote : Wrote (At O₀ at n) C₀ C
+  pub whole : swept (named C₀ (drop (at + 1) (take n O₀))) (lemma_at C₀ (get_or O₀ at 0)) ≡ noted again (behind (named C (drop (at + 1) (take left O))) (swept (named C (drop j (take n O₀))) (lemma_at C (get_or O₀ at 0))))
 
-module _ {at n : ℕ} {L₀ W₀ O₀ : List ℕ} (in' : at < n) (lined : Lined L₀ W₀ O₀ n) where
-  pub sweep_start : Sweeping at n L₀ W₀ O₀ L₀ W₀ O₀ (at + 1) (at + 1) false
+module _ {at n : ℕ} {C₀ : Clauses} {O₀ : List ℕ} (in' : at < n) (lined : Lined C₀ O₀ n) where
+  pub sweep_start : Sweeping at n C₀ O₀ C₀ O₀ (at + 1) (at + 1) false
   sweep_start = record {
     low = omega arith;
     high = omega arith;
@@ -65,27 +68,27 @@ module _ {at n : ℕ} {L₀ W₀ O₀ : List ℕ} (in' : at < n) (lined : Lined 
     back = refl;
     from = λ p h. (p, h, refl);
     once = λ p q hp hq e. lined.once p q (omega arith) (omega arith) e;
-    wrote = wrote_none (At O₀ at n) L₀ W₀;
-    whole = sym (ap (λ Ds. behind Ds (swept (named L₀ W₀ (drop (at + 1) (take n O₀))) (lemma_at L₀ W₀ (get_or O₀ at 0)))) (named_none (lemma_at L₀ W₀) O₀ (at + 1) (at + 1) (omega arith)));
+    wrote = wrote_none (At O₀ at n) C₀;
+    whole = sym (ap (λ Ds. behind Ds (swept (named C₀ (drop (at + 1) (take n O₀))) (lemma_at C₀ (get_or O₀ at 0)))) (named_none (lemma_at C₀) O₀ (at + 1) (at + 1) (omega arith)));
   }
 
-  module _ {L W O : List ℕ} {j left : ℕ} {again : Bool} (s : Sweeping at n L₀ W₀ O₀ L W O j left again) where
+  module _ {C : Clauses} {O : List ℕ} {j left : ℕ} {again : Bool} (s : Sweeping at n C₀ O₀ C O j left again) where
     -- the turn is over
-    pub sweep_end : n ≤ j → j ≤ n → Turned at n left again L₀ W₀ O₀ L W O
+    pub sweep_end : n ≤ j → j ≤ n → Turned at n left again C₀ O₀ C O
     sweep_end ge le =
-        let K = named L W (drop (at + 1) (take left O)) in
-        let C = lemma_at L W (get_or O₀ at 0) in
+        let K = named C (drop (at + 1) (take left O)) in
+        let A = lemma_at C (get_or O₀ at 0) in
         let same : j ≡ n = omega arith in
         record {
           low = s.low;
           high = omega (arith, s.high);
-          swept_to = s.whole ∙ ap (λ Ds. noted again (behind K (swept Ds C))) (named_none (lemma_at L W) O₀ j n ge) ∙ ap (λ t. noted again (behind K t)) (swept_none C) ∙ all_met again C K;
+          swept_to = s.whole ∙ ap (λ Ds. noted again (behind K (swept Ds A))) (named_none (lemma_at C) O₀ j n ge) ∙ ap (λ t. noted again (behind K t)) (swept_none A) ∙ all_met again A K;
           front = s.front;
           back = drop_later j n O O₀ le s.back;
           from = λ p h. let (q, qj, e) = s.from p h in (q, omega arith, e);
           lined = record {
             within = omega (arith, s.long, s.high, lined.within);
-            stands = λ p h. let (q, qj, e) = s.from p h in subst (Stands L W) (sym e) (s.wrote.standing (get_or O₀ q 0) (lined.stands q (omega arith)));
+            stands = λ p h. let (q, qj, e) = s.from p h in subst (Stands C) (sym e) (s.wrote.standing (get_or O₀ q 0) (lined.stands q (omega arith)));
             once = s.once;
           };
           wrote = s.wrote;
@@ -98,52 +101,52 @@ module _ {at n : ℕ} {L₀ W₀ O₀ : List ℕ} (in' : at < n) (lined : Lined 
       first_is : get_or O at 0 ≡ get_or O₀ at 0
       first_is = get_or_from_take (at + 1) O O₀ at (omega arith) s.front
 
-      pub first_stands : Stands L W (get_or O₀ at 0)
+      pub first_stands : Stands C (get_or O₀ at 0)
       first_stands = s.wrote.standing (get_or O₀ at 0) (lined.stands at in')
 
-      pub later_stands : Stands L W (get_or O j 0)
-      later_stands = subst (Stands L W) (sym later_is) (s.wrote.standing (get_or O₀ j 0) (lined.stands j jn))
+      pub later_stands : Stands C (get_or O j 0)
+      later_stands = subst (Stands C) (sym later_is) (s.wrote.standing (get_or O₀ j 0) (lined.stands j jn))
 
       pub pair_apart : get_or O₀ at 0 ≡ get_or O j 0 → ⊥
       pair_apart e = let z = lined.once at j in' jn (e ∙ later_is) in omega (arith, s.low, s.high)
 
-      module _ {L₁ W₁ : List ℕ} (w : Wrote (λ k. (k ≡ get_or O₀ at 0) ⊎ (k ≡ get_or O j 0)) L W L₁ W₁) where
-        wrote_on : Wrote (At O₀ at n) L₀ W₀ L₁ W₁
+      module _ {C₁ : Clauses} (w : Wrote (λ k. (k ≡ get_or O₀ at 0) ⊎ (k ≡ get_or O j 0)) C C₁) where
+        wrote_on : Wrote (At O₀ at n) C₀ C₁
         wrote_on = wrote_trans s.wrote (wrote_weaker (λ k o. ⊎_elim (λ e. (at, omega arith, in', sym e)) (λ e. (j, omega (arith, s.low, s.high), jn, sym (e ∙ later_is))) o) w)
 
-        same_kept : named L W (drop (at + 1) (take left O)) ≡ named L₁ W₁ (drop (at + 1) (take left O))
-        same_kept = named_same (lemma_at L W) (lemma_at L₁ W₁) O (at + 1) left (λ p lo hi.
+        same_kept : named C (drop (at + 1) (take left O)) ≡ named C₁ (drop (at + 1) (take left O))
+        same_kept = named_same (lemma_at C) (lemma_at C₁) O (at + 1) left (λ p lo hi.
             let (q, qj, e) = s.from p hi in
-            sym (wrote_other w (get_or O p 0) (subst (Stands L W) (sym e) (s.wrote.standing (get_or O₀ q 0) (lined.stands q (omega arith))))
+            sym (wrote_other w (get_or O p 0) (subst (Stands C) (sym e) (s.wrote.standing (get_or O₀ q 0) (lined.stands q (omega arith))))
             (λ o.
             ⊎_elim
             (λ f. let z = s.once p at hi s.low (f ∙ sym first_is) in omega arith)
             (λ f. let z = lined.once q j (omega arith) jn (sym e ∙ f ∙ later_is) in omega arith) o)))
 
-        same_rest : named L W (drop (j + 1) (take n O₀)) ≡ named L₁ W₁ (drop (j + 1) (take n O₀))
-        same_rest = named_same (lemma_at L W) (lemma_at L₁ W₁) O₀ (j + 1) n (λ p lo hi.
+        same_rest : named C (drop (j + 1) (take n O₀)) ≡ named C₁ (drop (j + 1) (take n O₀))
+        same_rest = named_same (lemma_at C) (lemma_at C₁) O₀ (j + 1) n (λ p lo hi.
             sym (wrote_other w (get_or O₀ p 0) (s.wrote.standing (get_or O₀ p 0) (lined.stands p hi))
             (λ o.
             ⊎_elim
             (λ f. let z = lined.once p at hi in' f in omega (arith, s.low, s.high))
             (λ f. let z = lined.once p j hi jn (f ∙ later_is) in omega arith) o)))
 
-        module _ (stays lost : Bool) (m : Meets L W L₁ W₁ (get_or O₀ at 0) (get_or O j 0) stays lost) where
-          step : swept (named L W (drop j (take n O₀))) (lemma_at L W (get_or O₀ at 0)) ≡ noted lost (staying stays (lemma_at L₁ W₁ (get_or O j 0)) (swept (named L₁ W₁ (drop (j + 1) (take n O₀))) (lemma_at L₁ W₁ (get_or O₀ at 0))))
+        module _ (t : Meeting) (m : Meets C C₁ (get_or O₀ at 0) (get_or O j 0) t) where
+          step : swept (named C (drop j (take n O₀))) (lemma_at C (get_or O₀ at 0)) ≡ after t (lemma_at C₁ (get_or O j 0)) (swept (named C₁ (drop (j + 1) (take n O₀))) (lemma_at C₁ (get_or O₀ at 0)))
           step =
-              let C = lemma_at L W (get_or O₀ at 0) in
-              let D = lemma_at L W (get_or O j 0) in
-              let R = named L W (drop (j + 1) (take n O₀)) in
-              ap (λ Ds. swept Ds C) (named_cons (lemma_at L W) O₀ j n jn lined.within ∙ ap (λ x. lemma_at L W x ∷ R) (sym later_is))
-              ∙ swept_more D R C ∙ m (λ B. swept R B)
-              ∙ ap (λ Ds. noted lost (staying stays (lemma_at L₁ W₁ (get_or O j 0)) (swept Ds (lemma_at L₁ W₁ (get_or O₀ at 0))))) same_rest
+              let A = lemma_at C (get_or O₀ at 0) in
+              let D = lemma_at C (get_or O j 0) in
+              let R = named C (drop (j + 1) (take n O₀)) in
+              ap (λ Ds. swept Ds A) (named_cons (lemma_at C) O₀ j n jn lined.within ∙ ap (λ x. lemma_at C x ∷ R) (sym later_is))
+              ∙ swept_more D R A ∙ m (λ B. swept R B)
+              ∙ ap (λ Ds. after t (lemma_at C₁ (get_or O j 0)) (swept Ds (lemma_at C₁ (get_or O₀ at 0)))) same_rest
 
-          so_far : swept (named L₀ W₀ (drop (at + 1) (take n O₀))) (lemma_at L₀ W₀ (get_or O₀ at 0)) ≡ noted again (behind (named L₁ W₁ (drop (at + 1) (take left O))) (noted lost (staying stays (lemma_at L₁ W₁ (get_or O j 0)) (swept (named L₁ W₁ (drop (j + 1) (take n O₀))) (lemma_at L₁ W₁ (get_or O₀ at 0))))))
+          so_far : swept (named C₀ (drop (at + 1) (take n O₀))) (lemma_at C₀ (get_or O₀ at 0)) ≡ noted again (behind (named C₁ (drop (at + 1) (take left O))) (after t (lemma_at C₁ (get_or O j 0)) (swept (named C₁ (drop (j + 1) (take n O₀))) (lemma_at C₁ (get_or O₀ at 0)))))
           so_far = s.whole ∙ (λ i. noted again (behind (same_kept i) (step i)))
 
-          -- the later clause went
-          pub sweep_goes : stays ≡ false → Sweeping at n L₀ W₀ O₀ L₁ W₁ O (j + 1) left (again || lost)
-          sweep_goes e = record {
+          -- the later clause went, and what is noted then of the turn is noted of the whole
+          gone : (g : Bool) → swept (named C₀ (drop (at + 1) (take n O₀))) (lemma_at C₀ (get_or O₀ at 0)) ≡ noted g (behind (named C₁ (drop (at + 1) (take left O))) (swept (named C₁ (drop (j + 1) (take n O₀))) (lemma_at C₁ (get_or O₀ at 0)))) → Sweeping at n C₀ O₀ C₁ O (j + 1) left g
+          gone g whole = record {
             low = s.low;
             high = omega (arith, s.high);
             long = s.long;
@@ -152,15 +155,24 @@ module _ {at n : ℕ} {L₀ W₀ O₀ : List ℕ} (in' : at < n) (lined : Lined 
             from = λ p h. let (q, qj, f) = s.from p h in (q, omega arith, f);
             once = s.once;
             wrote = wrote_on;
-            whole =
-                let K = named L₁ W₁ (drop (at + 1) (take left O)) in
-                let D = lemma_at L₁ W₁ (get_or O j 0) in
-                let t = swept (named L₁ W₁ (drop (j + 1) (take n O₀))) (lemma_at L₁ W₁ (get_or O₀ at 0)) in
-                so_far ∙ ap (λ b. noted again (behind K (noted lost (staying b D t)))) e ∙ one_goes K D t again lost;
+            whole = whole;
           }
 
+          pub sweep_goes : t ≡ Goes → Sweeping at n C₀ O₀ C₁ O (j + 1) left again
+          sweep_goes e =
+              let K = named C₁ (drop (at + 1) (take left O)) in
+              let u = swept (named C₁ (drop (j + 1) (take n O₀))) (lemma_at C₁ (get_or O₀ at 0)) in
+              gone again (so_far ∙ ap (λ b. noted again (behind K (after b (lemma_at C₁ (get_or O j 0)) u))) e)
+
+          pub sweep_joins : t ≡ Joins → Sweeping at n C₀ O₀ C₁ O (j + 1) left true
+          sweep_joins e =
+              let K = named C₁ (drop (at + 1) (take left O)) in
+              let D = lemma_at C₁ (get_or O j 0) in
+              let u = swept (named C₁ (drop (j + 1) (take n O₀))) (lemma_at C₁ (get_or O₀ at 0)) in
+              gone true (so_far ∙ ap (λ b. noted again (behind K (after b D u))) e ∙ one_joins K D u again)
+
           -- the later clause stays
-          pub sweep_stays : stays ≡ true → Sweeping at n L₀ W₀ O₀ L₁ W₁ (set O left (get_or O j 0)) (j + 1) (left + 1) (again || lost)
+          pub sweep_stays : t ≡ Stays → Sweeping at n C₀ O₀ C₁ (set O left (get_or O j 0)) (j + 1) (left + 1) again
           sweep_stays e =
               let x = get_or O j 0 in
               let room : left < length O = omega (arith, s.long, s.high, lined.within) in
@@ -193,68 +205,68 @@ module _ {at n : ℕ} {L₀ W₀ O₀ : List ℕ} (in' : at < n) (lined : Lined 
                     (cases_eq p left);
                 wrote = wrote_on;
                 whole =
-                    let K = named L₁ W₁ (drop (at + 1) (take left O)) in
-                    let D = lemma_at L₁ W₁ x in
-                    let t = swept (named L₁ W₁ (drop (j + 1) (take n O₀))) (lemma_at L₁ W₁ (get_or O₀ at 0)) in
-                    so_far ∙ ap (λ b. noted again (behind K (noted lost (staying b D t)))) e ∙ one_stays K D t again lost
-                    ∙ ap (λ Ds. noted (again || lost) (behind Ds t)) (sym (named_push (lemma_at L₁ W₁) O (at + 1) left x (omega (arith, s.low)) room));
+                    let K = named C₁ (drop (at + 1) (take left O)) in
+                    let D = lemma_at C₁ x in
+                    let u = swept (named C₁ (drop (j + 1) (take n O₀))) (lemma_at C₁ (get_or O₀ at 0)) in
+                    so_far ∙ ap (λ b. noted again (behind K (after b D u))) e ∙ one_stays K D u again
+                    ∙ ap (λ Ds. noted again (behind Ds u)) (sym (named_push (lemma_at C₁) O (at + 1) left x (omega (arith, s.low)) room));
               }
 
 -- ---- the turns one after the other
 
 -- the turns have come to the place `at`, and `left` clauses are left
-pub record Running (n : ℕ) (L₀ W₀ O₀ L W O : List ℕ) (at left : ℕ) : Type 0 where
+pub record Running (n : ℕ) (C₀ : Clauses) (O₀ : List ℕ) (C : Clauses) (O : List ℕ) (at left : ℕ) : Type 0 where
   pub low : at ≤ left
   pub high : left ≤ n
-  pub whole : full (named L₀ W₀ (take n O₀)) ≡ named L W (take at O) ++ full (named L W (drop at (take left O)))
+  pub whole : full (named C₀ (take n O₀)) ≡ named C (take at O) ++ full (named C (drop at (take left O)))
   pub back : drop n O ≡ drop n O₀
   pub from : From O₀ n O left
-  pub lined : Lined L W O left
-  pub wrote : Wrote (At O₀ 0 n) L₀ W₀ L W
+  pub lined : Lined C O left
+  pub wrote : Wrote (At O₀ 0 n) C₀ C
 
-pub run_start : {n : ℕ} {L₀ W₀ O₀ : List ℕ} → Lined L₀ W₀ O₀ n → Running n L₀ W₀ O₀ L₀ W₀ O₀ 0 n
-run_start {n} {L₀} {W₀} {O₀} lined = record {
+pub run_start : {n : ℕ} {C₀ : Clauses} {O₀ : List ℕ} → Lined C₀ O₀ n → Running n C₀ O₀ C₀ O₀ 0 n
+run_start {n} {C₀} {O₀} lined = record {
   low = omega arith;
   high = omega arith;
   whole = refl;
   back = refl;
   from = λ p h. (p, h, refl);
   lined = lined;
-  wrote = wrote_none (At O₀ 0 n) L₀ W₀;
+  wrote = wrote_none (At O₀ 0 n) C₀;
 }
 
 -- a turn that comes again has left fewer
-pub turned_less : {at n m : ℕ} {again : Bool} {L W O L₁ W₁ O₁ : List ℕ} → n ≤ length O → again ≡ true → Turned at n m again L W O L₁ W₁ O₁ → m < n
-turned_less {at} {n} {m} {again} {L} {W} {O} {L₁} {W₁} {O₁} within e t =
-    let Ds = named L W (drop (at + 1) (take n O)) in
-    let C = lemma_at L W (get_or O at 0) in
-    let R = named L₁ W₁ (drop (at + 1) (take m O₁)) in
-    let h : Short (length Ds) (record { first = lemma_at L₁ W₁ (get_or O at 0); again = again; rest = R }) = subst (Short (length Ds)) t.swept_to (swept_short Ds C) in
+pub turned_less : {at n m : ℕ} {again : Bool} {C : Clauses} {O : List ℕ} {C₁ : Clauses} {O₁ : List ℕ} → n ≤ length O → again ≡ true → Turned at n m again C O C₁ O₁ → m < n
+turned_less {at} {n} {m} {again} {C} {O} {C₁} {O₁} within e t =
+    let Ds = named C (drop (at + 1) (take n O)) in
+    let A = lemma_at C (get_or O at 0) in
+    let R = named C₁ (drop (at + 1) (take m O₁)) in
+    let h : Short (length Ds) (record { first = lemma_at C₁ (get_or O at 0); again = again; rest = R }) = subst (Short (length Ds)) t.swept_to (swept_short Ds A) in
     omega (
       arith,
       h.less e,
       t.low,
-      length-map (drop (at + 1) (take n O)) (lemma_at L W),
+      length-map (drop (at + 1) (take n O)) (lemma_at C),
       length-drop (at + 1) (take n O),
       length-take-le n O within,
-      length-map (drop (at + 1) (take m O₁)) (lemma_at L₁ W₁),
+      length-map (drop (at + 1) (take m O₁)) (lemma_at C₁),
       length-drop (at + 1) (take m O₁),
       length-take-le m O₁ t.lined.within,
     )
 
-module _ {n : ℕ} {L₀ W₀ O₀ L W O : List ℕ} {at left : ℕ} (s : Running n L₀ W₀ O₀ L W O at left) where
+module _ {n : ℕ} {C₀ : Clauses} {O₀ : List ℕ} {C : Clauses} {O : List ℕ} {at left : ℕ} (s : Running n C₀ O₀ C O at left) where
   -- the turns are over
-  pub run_end : n ≤ length O₀ → left ≤ at → Ran n left L₀ W₀ O₀ L W O
+  pub run_end : n ≤ length O₀ → left ≤ at → Ran n left C₀ O₀ C O
   run_end within le =
       let same : at ≡ left = omega (arith, s.low) in
-      let Cs = named L₀ W₀ (take n O₀) in
-      let long : length Cs ≡ n = length-map (take n O₀) (lemma_at L₀ W₀) ∙ length-take-le n O₀ within in
-      let none : full (named L W (drop at (take left O))) ≡ [] = ap full (named_none (lemma_at L W) O at left le) ∙ full_none in
+      let Cs = named C₀ (take n O₀) in
+      let long : length Cs ≡ n = length-map (take n O₀) (lemma_at C₀) ∙ length-take-le n O₀ within in
+      let none : full (named C (drop at (take left O))) ≡ [] = ap full (named_none (lemma_at C) O at left le) ∙ full_none in
       record {
         high = s.high;
         ran =
-            ap (λ k. named L W (take k O)) (sym same)
-            ∙ sym (s.whole ∙ ap (λ Ds. named L W (take at O) ++ Ds) none ∙ append-nil (named L W (take at O)))
+            ap (λ k. named C (take k O)) (sym same)
+            ∙ sym (s.whole ∙ ap (λ Ds. named C (take at O) ++ Ds) none ∙ append-nil (named C (take at O)))
             ∙ ap (λ k. lemmas_from k Cs) long;
         back = s.back;
         from = s.from;
@@ -262,7 +274,7 @@ module _ {n : ℕ} {L₀ W₀ O₀ L W O : List ℕ} {at left : ℕ} (s : Runnin
         wrote = s.wrote;
       }
 
-  module _ {kept : ℕ} {again : Bool} {L₁ W₁ O₁ : List ℕ} (in' : at < left) (t : Turned at left kept again L W O L₁ W₁ O₁) where
+  module _ {kept : ℕ} {again : Bool} {C₁ : Clauses} {O₁ : List ℕ} (in' : at < left) (t : Turned at left kept again C O C₁ O₁) where
     front_line : take at O₁ ≡ take at O
     front_line = sym (take-take at (at + 1) O₁ (omega arith)) ∙ ap (take at) t.front ∙ take-take at (at + 1) O (omega arith)
 
@@ -270,19 +282,19 @@ module _ {n : ℕ} {L₀ W₀ O₀ L W O : List ℕ} {at left : ℕ} (s : Runnin
     here = get_or_from_take (at + 1) O₁ O at (omega arith) t.front
 
     -- the clauses before have not changed
-    front_same : named L W (take at O) ≡ named L₁ W₁ (take at O₁)
+    front_same : named C (take at O) ≡ named C₁ (take at O₁)
     front_same =
-        named_same (lemma_at L W) (lemma_at L₁ W₁) O 0 at (λ p lo hi.
+        named_same (lemma_at C) (lemma_at C₁) O 0 at (λ p lo hi.
         sym (wrote_other t.wrote (get_or O p 0) (s.lined.stands p (omega arith)) (λ (q, ql, qh, e). let z = s.lined.once q p qh (omega arith) e in omega arith)))
-        ∙ ap (named L₁ W₁) (sym front_line)
+        ∙ ap (named C₁) (sym front_line)
 
-    turn : full (named L W (drop at (take left O))) ≡ cond again (full (named L₁ W₁ (drop at (take kept O₁)))) (lemma_at L₁ W₁ (get_or O₁ at 0) ∷ full (named L₁ W₁ (drop (at + 1) (take kept O₁))))
+    turn : full (named C (drop at (take left O))) ≡ cond again (full (named C₁ (drop at (take kept O₁)))) (lemma_at C₁ (get_or O₁ at 0) ∷ full (named C₁ (drop (at + 1) (take kept O₁))))
     turn =
-        let C = lemma_at L W (get_or O at 0) in
-        let Ds = named L W (drop (at + 1) (take left O)) in
-        let R = named L₁ W₁ (drop (at + 1) (take kept O₁)) in
-        let F₁ = lemma_at L₁ W₁ in
-        ap full (named_cons (lemma_at L W) O at left in' s.lined.within) ∙ full_step C Ds ∙ ap (λ u. turned u full) t.swept_to
+        let A = lemma_at C (get_or O at 0) in
+        let Ds = named C (drop (at + 1) (take left O)) in
+        let R = named C₁ (drop (at + 1) (take kept O₁)) in
+        let F₁ = lemma_at C₁ in
+        ap full (named_cons (lemma_at C) O at left in' s.lined.within) ∙ full_step A Ds ∙ ap (λ u. turned u full) t.swept_to
         ∙ ap (λ x. cond again (full (F₁ x ∷ R)) (F₁ x ∷ full R)) (sym here)
         ∙ ap (λ Cs. cond again (full Cs) (F₁ (get_or O₁ at 0) ∷ full R)) (sym (named_cons F₁ O₁ at kept t.low t.lined.within))
 
@@ -295,36 +307,36 @@ module _ {n : ℕ} {L₀ W₀ O₀ L W O : List ℕ} {at left : ℕ} (s : Runnin
         let (r, rn, f) = s.from q ql in
         (r, rn, e ∙ f)
 
-    wrote_all : Wrote (At O₀ 0 n) L₀ W₀ L₁ W₁
+    wrote_all : Wrote (At O₀ 0 n) C₀ C₁
     wrote_all = wrote_trans s.wrote (wrote_weaker (λ k (p, lo, hi, e). let (q, qn, f) = s.from p hi in (q, omega arith, qn, sym f ∙ e)) t.wrote)
 
-    pub run_again : again ≡ true → Running n L₀ W₀ O₀ L₁ W₁ O₁ at kept
+    pub run_again : again ≡ true → Running n C₀ O₀ C₁ O₁ at kept
     run_again e =
-        let A = full (named L₁ W₁ (drop at (take kept O₁))) in
-        let B = lemma_at L₁ W₁ (get_or O₁ at 0) ∷ full (named L₁ W₁ (drop (at + 1) (take kept O₁))) in
+        let A = full (named C₁ (drop at (take kept O₁))) in
+        let B = lemma_at C₁ (get_or O₁ at 0) ∷ full (named C₁ (drop (at + 1) (take kept O₁))) in
         record {
           low = omega (arith, t.low);
           high = omega (arith, t.high, s.high);
-          whole = s.whole ∙ ap (λ Cs. Cs ++ full (named L W (drop at (take left O)))) front_same ∙ ap (λ Cs. named L₁ W₁ (take at O₁) ++ Cs) (turn ∙ ap (λ b. cond b A B) e);
+          whole = s.whole ∙ ap (λ Cs. Cs ++ full (named C (drop at (take left O)))) front_same ∙ ap (λ Cs. named C₁ (take at O₁) ++ Cs) (turn ∙ ap (λ b. cond b A B) e);
           back = back_on;
           from = from_on;
           lined = t.lined;
           wrote = wrote_all;
         }
 
-    pub run_on : again ≡ false → Running n L₀ W₀ O₀ L₁ W₁ O₁ (at + 1) kept
+    pub run_on : again ≡ false → Running n C₀ O₀ C₁ O₁ (at + 1) kept
     run_on e =
-        let A = full (named L₁ W₁ (drop at (take kept O₁))) in
-        let R = full (named L₁ W₁ (drop (at + 1) (take kept O₁))) in
-        let C = lemma_at L₁ W₁ (get_or O₁ at 0) in
-        let more : named L₁ W₁ (take (at + 1) O₁) ≡ named L₁ W₁ (take at O₁) ++ C ∷ [] =
-        ap (named L₁ W₁) (take_more O₁ at 0 (omega (arith, t.low, t.lined.within))) ∙ map_push (lemma_at L₁ W₁) (take at O₁) (get_or O₁ at 0) in
+        let A = full (named C₁ (drop at (take kept O₁))) in
+        let R = full (named C₁ (drop (at + 1) (take kept O₁))) in
+        let F = lemma_at C₁ (get_or O₁ at 0) in
+        let more : named C₁ (take (at + 1) O₁) ≡ named C₁ (take at O₁) ++ F ∷ [] =
+        ap (named C₁) (take_more O₁ at 0 (omega (arith, t.low, t.lined.within))) ∙ map_push (lemma_at C₁) (take at O₁) (get_or O₁ at 0) in
         record {
           low = omega (arith, t.low);
           high = omega (arith, t.high, s.high);
           whole =
-              s.whole ∙ ap (λ Cs. Cs ++ full (named L W (drop at (take left O)))) front_same ∙ ap (λ Cs. named L₁ W₁ (take at O₁) ++ Cs) (turn ∙ ap (λ b. cond b A (C ∷ R)) e)
-              ∙ sym (append_assoc (named L₁ W₁ (take at O₁)) (C ∷ []) R) ∙ ap (λ Cs. Cs ++ R) (sym more);
+              s.whole ∙ ap (λ Cs. Cs ++ full (named C (drop at (take left O)))) front_same ∙ ap (λ Cs. named C₁ (take at O₁) ++ Cs) (turn ∙ ap (λ b. cond b A (F ∷ R)) e)
+              ∙ sym (append_assoc (named C₁ (take at O₁)) (F ∷ []) R) ∙ ap (λ Cs. Cs ++ R) (sym more);
           back = back_on;
           from = from_on;
           lined = t.lined;

@@ -1,22 +1,30 @@
 -- Lemmas in words: one word each for the lengths, 32 words each for the literals. Assumes nothing.
 use Rattle.std.specs.Prelude.{◌≡◌, ℕ, ◌+◌, ◌*◌, ◌/◌, ◌<◌, ◌≤◌, List, map, length, take, drop, slice_index, slice_index_or}
+use Rattle.std.specs.Borrow.{MutBor}
+use Rattle.lemmas.specs.declared.words.Clauses.{Clauses}
 
 -- the clause that arrived as the kth
-abbrev pub lemma_at : List ℕ → List ℕ → ℕ → List ℕ
-lemma_at L W k = take (slice_index L k) (drop (32 * k) W)
+abbrev pub lemma_at : Clauses → ℕ → List ℕ
+lemma_at C k = take (slice_index C.lengths.now k) (drop (32 * k) C.literals.now)
 
 -- the clauses that a list of numbers names, in its order
-abbrev pub named : List ℕ → List ℕ → List ℕ → List (List ℕ)
-named L W ks = map (lemma_at L W) ks
+abbrev pub named : Clauses → List ℕ → List (List ℕ)
+named C ks = map (lemma_at C) ks
 
 -- the kth clause has its words, and at most 32 literals
-pub record Stands (L W : List ℕ) (k : ℕ) : Type 0 where
-  pub counted : k < length L
-  pub room : 32 * k + 32 ≤ length W
-  pub short : slice_index_or L k 0 ≤ 32
+pub record Stands (C : Clauses) (k : ℕ) : Type 0 where
+  pub counted : k < length C.lengths.now
+  pub room : 32 * k + 32 ≤ length C.literals.now
+  pub short : slice_index_or C.lengths.now k 0 ≤ 32
 
--- of the lengths L and the literals W, which are now L' and W', only words of clauses whose number has P have changed
-pub record Wrote (P : ℕ → Type 0) (L W L' W' : List ℕ) : Type 0 where
-  pub standing : (k : ℕ) → Stands L W k → Stands L' W' k
-  pub counts : (k : ℕ) → (P k → ⊥) → slice_index L' k ≡ slice_index L k
-  pub words : (i : ℕ) → (P (i / 32) → ⊥) → slice_index W' i ≡ slice_index W i
+-- the same words are lent as before, as many of them
+abbrev pub SameLent : MutBor (List ℕ) → MutBor (List ℕ) → Type 0
+SameLent r r' = (r'.ghost_name ≡ r.ghost_name) × (length r'.now ≡ length r.now)
+
+-- of the clauses C, which are now C', only words of those whose number has P have changed
+pub record Wrote (P : ℕ → Type 0) (C C' : Clauses) : Type 0 where
+  pub lengths : SameLent C.lengths C'.lengths
+  pub literals : SameLent C.literals C'.literals
+  pub standing : (k : ℕ) → Stands C k → Stands C' k
+  pub counts : (k : ℕ) → (P k → ⊥) → slice_index C'.lengths.now k ≡ slice_index C.lengths.now k
+  pub words : (i : ℕ) → (P (i / 32) → ⊥) → slice_index C'.literals.now i ≡ slice_index C.literals.now i

@@ -13,4 +13,4 @@ mod sort;
 mod turns;
 mod words;
 
-pub use simplify::lemmas_subsume_simplify;
+pub use simplify::Lemmas;

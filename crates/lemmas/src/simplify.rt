@@ -1,56 +1,64 @@
 // The simplification as a whole.
 ghost use Rattle.lemmas.specs.Lines.{Admits, Simplified};
-ghost use Rattle.std.specs.Prelude.{◌≡◌, is_some, Some, None, Decides};
+ghost use Rattle.std.specs.Prelude.{◌≡◌, ◌≤◌, MatchOption, is_some, Decides, EachIndex, slice_index};
 
 use crate::sort::sort;
-use crate::turns::run;
-use crate::words::WIDTH;
+use crate::words::{Clauses, WIDTH};
 
-// Whether the slices have words for `count` clauses, each of at most 32 literals.
-fn admits(
-    lengths: &[u32],
-    literals: &[u32],
-    order: &[u32],
-    entries: &[u32],
-    places: &[u32],
-    count: u32,
-) -> bool
-    ensures { Decides result (Admits count lengths.now literals.now order.now entries.now places.now) }
-{
-    let n = count as usize;
-    if lengths.len() < n || literals.len() / WIDTH < n {
-        return false;
-    }
-    if order.len() < n || entries.len() < n || places.len() < n {
-        return false;
-    }
-    for k in 0..n {
-        if lengths[k] as usize > WIDTH {
-            return false;
-        }
-    }
-    true
+// The words that a simplification is lent.
+#[derive(Drop)]
+pub struct Lemmas<'l, 'c, 'o, 'e, 'p> {
+    // Clause k has its length at `lengths[k]` and its literals from `literals[32 * k]` on.
+    pub lengths: &'l mut [u32],
+    pub literals: &'c mut [u32],
+    // The line of the numbers of those that are left.
+    pub order: &'o mut [u32],
+    // Working words, one of each for a clause.
+    pub entries: &'e mut [u32],
+    pub places: &'p mut [u32],
 }
 
-// Simplifies the first `count` clauses among themselves: clause k has its length at `lengths[k]` and its literals from `literals[32 * k]`
-// on. Answers how many are left, r, and `order[0..r]` names them, each once, by the length that they came with, then by arrival. The
-// answer is none, and nothing has changed, where a slice has too few words or a clause is longer than 32 literals. `entries` and `places`
-// are working words, `count` of each at least.
-pub fn lemmas_subsume_simplify(
-    lengths: &mut [u32],
-    literals: &mut [u32],
-    order: &mut [u32],
-    entries: &mut [u32],
-    places: &mut [u32],
-    count: u32,
-) -> Option<usize>
-    ensures when { Decides (is_some result) (Admits count lengths.old literals.old order.old entries.old places.old) }
-    ensures some { elim result [ None ↦ Unit {0} | Some m ↦ Simplified count m lengths.old literals.old order.old lengths.new literals.new order.new ] }
-    ensures none { elim result [ None ↦ (lengths.new ≡ lengths.old) × (literals.new ≡ literals.old) × (order.new ≡ order.old) × (entries.new ≡ entries.old) × (places.new ≡ places.old) | Some m ↦ Unit {0} ] }
+// Whether each clause has at most 32 literals.
+fn are_short(lengths: &[u32]) -> bool
+    ensures { Decides result (EachIndex lengths.now (λ k. slice_index lengths.now k ≤ 32)) }
 {
-    if !admits(lengths, literals, order, entries, places, count) {
-        return None;
+    lengths.iter().all(|&long| long as usize <= WIDTH)
+}
+
+impl Lemmas<'_, '_, '_, '_, '_> {
+    // Whether there are words for `count` clauses, each of at most 32 literals.
+    fn admits(&self, count: u32) -> bool
+        ensures { Decides result (Admits count self.now) }
+    {
+        let n = count as usize;
+        n <= self.lengths.len()
+            && n <= self.literals.len() / WIDTH
+            && n <= self.order.len()
+            && n <= self.entries.len()
+            && n <= self.places.len()
+            && are_short(&self.lengths[..n])
     }
-    sort(lengths, count, order, entries, places);
-    Some(run(lengths, literals, order, count as usize))
+
+    // Simplifies the first `count` clauses among themselves. Answers how many are left, r, and `order[0..r]` names them, each once, by the
+    // length that they came with, then by arrival. The answer is none, and nothing has changed, where there are too few words or a clause
+    // is longer than 32 literals. The same words stay lent.
+    pub fn lemmas_subsume_simplify(&mut self, count: u32) -> Option<usize>
+        ensures when { Decides (is_some result) (Admits count self.old) }
+        ensures answer { MatchOption result (self.new ≡ self.old) (λ m. Simplified count m self.old self.new) }
+        ensures lengths { self.new.lengths.ghost_name ≡ self.old.lengths.ghost_name }
+        ensures literals { self.new.literals.ghost_name ≡ self.old.literals.ghost_name }
+        ensures order { self.new.order.ghost_name ≡ self.old.order.ghost_name }
+        ensures entries { self.new.entries.ghost_name ≡ self.old.entries.ghost_name }
+        ensures places { self.new.places.ghost_name ≡ self.old.places.ghost_name }
+    {
+        if !self.admits(count) {
+            return None;
+        }
+        let mut clauses = Clauses {
+            lengths: &mut *self.lengths,
+            literals: &mut *self.literals,
+        };
+        sort(&clauses, count, self.order, self.entries, self.places);
+        Some(clauses.run(self.order, count as usize))
+    }
 }

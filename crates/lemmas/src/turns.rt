@@ -1,50 +1,60 @@
 // The turns of the clauses in a line, each against the later ones.
 ghost use Rattle.lemmas.specs.Lines.{Lined, Turned, Ran};
-ghost use Rattle.std.specs.Prelude.{◌<◌};
+ghost use Rattle.std.specs.Prelude.{◌≡◌, ◌<◌};
 
-use crate::words::meet;
+use crate::words::{Clauses, Meeting};
 
-// The turn of the clause at the place `at`, against those after it among the first `n` of the line: how many are left with those up to
-// `at`, and whether it lost a literal.
-fn sweep(
-    lengths: &mut [u32],
-    literals: &mut [u32],
-    order: &mut [u32],
-    at: usize,
-    n: usize,
-) -> (usize, bool)
-    requires within { at < n }
-    requires lined { Lined lengths.old literals.old order.old n }
-    ensures { Turned at n result.0 result.1 lengths.old literals.old order.old lengths.new literals.new order.new }
-{
-    let first = order[at];
-    let mut left = at + 1;
-    let mut again = false;
-    for j in at + 1..n {
-        let later = order[j];
-        let meeting = meet(lengths, literals, first, later);
-        again |= meeting.lost;
-        if meeting.stays {
-            order[left] = later;
-            left += 1;
-        }
-    }
-    (left, again)
+// What the turn of a clause has left.
+#[derive(Clone, Copy)]
+struct Turn {
+    // How many clauses are left with those before it.
+    left: usize,
+    // Whether it lost a literal, and so has its turn again.
+    again: bool,
 }
 
-// The turns of the first `n` clauses of the line, each once more while it loses literals: how many are left.
-pub(crate) fn run(lengths: &mut [u32], literals: &mut [u32], order: &mut [u32], n: usize) -> usize
-    requires { Lined lengths.old literals.old order.old n }
-    ensures { Ran n result lengths.old literals.old order.old lengths.new literals.new order.new }
-{
-    let mut at = 0;
-    let mut left = n;
-    while at < left {
-        let (kept, again) = sweep(lengths, literals, order, at, left);
-        left = kept;
-        if !again {
-            at += 1;
+// Two functions require that the line names clauses that stand: the line is lent, and it is a line only up to a number that falls.
+impl Clauses<'_> {
+    // The turn of the clause at the place `at`, against those after it among the first `n` of the line.
+    fn sweep(&mut self, order: &mut [u32], at: usize, n: usize) -> Turn
+        requires within { at < n }
+        requires lined { Lined self.old order.old n }
+        ensures { Turned at n result.left result.again self.old order.old self.new order.new }
+    {
+        let first = order[at];
+        let mut left = at + 1;
+        let mut again = false;
+        // The line is read and written in place, each number at or before the place that it came from.
+        for j in at + 1..n {
+            let later = order[j];
+            match self.meet(first, later) {
+                Meeting::Stays => {
+                    order[left] = later;
+                    left += 1;
+                }
+                Meeting::Goes => {}
+                Meeting::Joins => again = true,
+            }
         }
+        Turn { left, again }
     }
-    left
+
+    // The turns of the first `n` clauses of the line, each once more while it loses literals: how many are left.
+    pub(crate) fn run(&mut self, order: &mut [u32], n: usize) -> usize
+        requires { Lined self.old order.old n }
+        ensures ran { Ran n result self.old order.old self.new order.new }
+        ensures lengths { self.new.lengths.ghost_name ≡ self.old.lengths.ghost_name }
+        ensures literals { self.new.literals.ghost_name ≡ self.old.literals.ghost_name }
+    {
+        let mut at = 0;
+        let mut left = n;
+        while at < left {
+            let Turn { left: kept, again } = self.sweep(order, at, left);
+            left = kept;
+            if !again {
+                at += 1;
+            }
+        }
+        left
+    }
 }

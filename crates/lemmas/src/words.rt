@@ -1,4 +1,4 @@
-// Two clauses in words, and what one makes of the other.
+// Clauses in words, and what one makes of another.
 ghost use Rattle.lemmas.specs.Turns.{Meets};
 ghost use Rattle.lemmas.specs.Words.{lemma_at, Stands, Wrote};
 ghost use Rattle.network.specs.Clauses.{without};
@@ -9,70 +9,71 @@ use clause::{Lit, drop_literal, ordered_subsume_execpt_one};
 // The words that each clause has for its literals.
 pub(crate) const WIDTH: usize = 32;
 
-// The literals of a clause.
-fn literals_of<'w>(lengths: &[u32], literals: &'w [u32], number: u32) -> &'w [u32]
-    requires { Stands lengths.now literals.now number }
-    ensures { result.now ≡ lemma_at lengths.now literals.now number }
-{
-    let from = WIDTH * number as usize;
-    let long = lengths[number as usize] as usize;
-    &literals[from..from + long]
-}
-
-// Takes a literal from a clause.
-fn lose(lengths: &mut [u32], literals: &mut [u32], number: u32, literal: Lit)
-    requires { Stands lengths.old literals.old number }
-    ensures wrote { Wrote (λ k. k ≡ number) lengths.old literals.old lengths.new literals.new }
-    ensures lost { lemma_at lengths.new literals.new number ≡ without literal.word (lemma_at lengths.old literals.old number) }
-{
-    let from = WIDTH * number as usize;
-    let long = lengths[number as usize] as usize;
-    let left = drop_literal(&mut literals[from..from + long], literal);
-    lengths[number as usize] = left as u32;
+// Clauses in lent words: clause k has its length at `lengths[k]` and its literals from `literals[32 * k]` on.
+#[derive(Drop)]
+pub(crate) struct Clauses<'w> {
+    pub(crate) lengths: &'w mut [u32],
+    pub(crate) literals: &'w mut [u32],
 }
 
 // What became of two clauses that met.
 #[derive(Clone, Copy)]
-pub(crate) struct Meeting {
-    // Whether the later one stays.
-    pub(crate) stays: bool,
-    // Whether the first one lost a literal.
-    pub(crate) lost: bool,
+pub(crate) enum Meeting {
+    // The later one stays, as it was or a literal shorter.
+    Stays,
+    // The later one goes.
+    Goes,
+    // Both became one: the first lost a literal, and the later one goes.
+    Joins,
 }
 
-// One clause meets a later one: the later one goes or loses a literal, or both become one, or nothing happens.
-pub(crate) fn meet(lengths: &mut [u32], literals: &mut [u32], first: u32, later: u32) -> Meeting
-    requires first { Stands lengths.old literals.old first }
-    requires later { Stands lengths.old literals.old later }
-    requires apart { first ≢ later }
-    ensures wrote { Wrote (λ k. (k ≡ first) ⊎ (k ≡ later)) lengths.old literals.old lengths.new literals.new }
-    ensures met { Meets lengths.old literals.old lengths.new literals.new first later result.stays result.lost }
-{
-    let a = literals_of(lengths, literals, first);
-    let b = literals_of(lengths, literals, later);
-    let (part, differs) = ordered_subsume_execpt_one(a, b);
-    if part {
-        return Meeting {
-            stays: false,
-            lost: false,
-        };
+// That a clause stands is required for one clause at a time: other words may hold clauses that are too long.
+impl Clauses<'_> {
+    // The literals of a clause.
+    fn literals_of(&self, number: u32) -> &[u32]
+        requires { Stands self.now number }
+        ensures { result.now ≡ lemma_at self.now number }
+    {
+        let from = WIDTH * number as usize;
+        let long = self.lengths[number as usize] as usize;
+        &self.literals[from..from + long]
     }
-    let Some(literal) = differs else {
-        return Meeting {
-            stays: true,
-            lost: false,
-        };
-    };
-    if lengths[first as usize] == lengths[later as usize] {
-        lose(lengths, literals, first, literal);
-        return Meeting {
-            stays: false,
-            lost: true,
-        };
+
+    // Takes a literal from a clause.
+    fn lose(&mut self, number: u32, literal: Lit)
+        requires { Stands self.old number }
+        ensures wrote { Wrote (λ k. k ≡ number) self.old self.new }
+        ensures lost { lemma_at self.new number ≡ without literal.word (lemma_at self.old number) }
+    {
+        let from = WIDTH * number as usize;
+        let long = self.lengths[number as usize] as usize;
+        let left = drop_literal(&mut self.literals[from..from + long], literal);
+        self.lengths[number as usize] = left as u32;
     }
-    lose(lengths, literals, later, literal.opposite());
-    Meeting {
-        stays: true,
-        lost: false,
+
+    // One clause meets a later one: the later one goes or loses a literal, or both become one, or nothing happens.
+    pub(crate) fn meet(&mut self, first: u32, later: u32) -> Meeting
+        requires first { Stands self.old first }
+        requires later { Stands self.old later }
+        requires apart { first ≢ later }
+        ensures wrote { Wrote (λ k. (k ≡ first) ⊎ (k ≡ later)) self.old self.new }
+        ensures met { Meets self.old self.new first later result }
+    {
+        let (part, differs) = ordered_subsume_execpt_one(
+            self.literals_of(first),
+            self.literals_of(later),
+        );
+        if part {
+            return Meeting::Goes;
+        }
+        let Some(literal) = differs else {
+            return Meeting::Stays;
+        };
+        if self.lengths[first as usize] == self.lengths[later as usize] {
+            self.lose(first, literal);
+            return Meeting::Joins;
+        }
+        self.lose(later, literal.opposite());
+        Meeting::Stays
     }
 }

@@ -3,7 +3,7 @@
 
 #[cfg(test)]
 mod tests {
-    use lemmas::lemmas_subsume_simplify;
+    use lemmas::Lemmas;
     use queue::{Queue, Resolvents, WaitingNodes};
 
     // {2,6} and {3,6} become {6}, which {6,8} has, and {5,7,9} stays.
@@ -21,14 +21,14 @@ mod tests {
         literals[96] = 6;
         literals[97] = 8;
         let mut order = [9u32; 4];
-        let left = lemmas_subsume_simplify(
-            &mut lengths,
-            &mut literals,
-            &mut order,
-            &mut [0u32; 4],
-            &mut [0u32; 4],
-            4,
-        );
+        let mut words = Lemmas {
+            lengths: &mut lengths,
+            literals: &mut literals,
+            order: &mut order,
+            entries: &mut [0u32; 4],
+            places: &mut [0u32; 4],
+        };
+        let left = words.lemmas_subsume_simplify(4);
         assert_eq!(rt; left, Some(2));
         assert!(rt;
             order[0] == 1 && order[1] == 0,
@@ -41,14 +41,14 @@ mod tests {
     #[test]
     fn short_words_are_refused(rt: HostRuntime) {
         let mut order = [7u32; 1];
-        let left = lemmas_subsume_simplify(
-            &mut [1, 1],
-            &mut [2u32; 64],
-            &mut order,
-            &mut [0u32; 2],
-            &mut [0u32; 2],
-            2,
-        );
+        let mut words = Lemmas {
+            lengths: &mut [1, 1],
+            literals: &mut [2u32; 64],
+            order: &mut order,
+            entries: &mut [0u32; 2],
+            places: &mut [0u32; 2],
+        };
+        let left = words.lemmas_subsume_simplify(2);
         assert_eq!(rt; left, None);
         assert_eq!(rt; order, [7]);
     }

@@ -21,5 +21,5 @@ mod sift;
 
 pub use heap::pops_sort;
 pub use order::Order;
-pub use orders::{Resolvents, WaitingNodes, count_moves_one};
+pub use orders::{Keyed, Resolvents, WaitingNodes, count_moves_one};
 pub use queue::Queue;
