@@ -9,7 +9,8 @@
 
 ghost use Rattle.std.specs.Prelude.{◌≡◌, ℕ, ◌+◌, ◌*◌, ◌<◌, ◌≤◌, List, length};
 ghost use Rattle.rings.specs.Laws.{RingLaws};
-ghost use Rattle.rings.specs.Rings.{cut_out, knotted, next, put_in, ring, scattered, shifted, slot_after, swapped_out, walk};
+ghost use Rattle.rings.specs.Left.{slots_left};
+ghost use Rattle.rings.specs.Rings.{cut_out, knotted, next, put_in, ring, scattered, shifted, slot_after, swapped_out};
 ghost use Rattle.rings.specs.Rings.{inside as lies_inside};
 ghost use Rattle.std.specs.Iterator.{YieldsFirst, item_count};
 
@@ -107,9 +108,9 @@ pub struct Slots<'w> {
 impl Iterator for Slots<'_> {
     type Item = u32;
 
-    ghost next_gives = { YieldsFirst (λ s. walk (next s.words.now) s.heads s.left s.at) };
+    ghost next_gives = { YieldsFirst slots_left };
 
-    ghost remaining = { item_count (λ s. walk (next s.words.now) s.heads s.left s.at) };
+    ghost remaining = { item_count slots_left };
 
     fn next(&mut self) -> Option<u32> {
         if self.left == 0 || self.at < self.heads {
@@ -131,7 +132,7 @@ fn next_in(ws: &[u32], n: u32) -> u32
 
 // The slots of the ring of l, of so many nodes.
 pub fn ring(ws: &[u32], heads: u32, nodes: u32, l: u32) -> Slots<'_>
-    ensures { walk (next result.words.now) result.heads result.left result.at ≡ ring heads nodes ws.now l }
+    ensures { slots_left result ≡ ring heads nodes ws.now l }
 {
     Slots {
         words: ws,

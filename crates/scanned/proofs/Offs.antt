@@ -1,16 +1,16 @@
 -- The index dropped. Assumes nothing.
-use Rattle.std.proofs.Common.{◌≡◌, ℕ, ◌+◌, ◌-◌, ◌*◌, ◌<◌, ◌≤◌, Bool, true, false, not, ◌&&◌, eqb, ltb, List, [], ◌∷◌, ◌++◌, map, length, get_or, drop, Some, None, filter, Option, sym, refl, ap, ◌∙◌, subst, inl, inr, arith, length-set}
+use Rattle.std.proofs.Common.{◌≡◌, ℕ, ◌+◌, ◌-◌, ◌*◌, ◌<◌, ◌≤◌, Bool, true, false, not, ◌&&◌, eqb, ltb, List, [], ◌∷◌, ◌++◌, map, length, get_or, drop, filter, sym, refl, ap, ◌∙◌, subst, inl, inr, arith, length-set}
 use mathlib.Core.Path.{fun_ext}
 use Rattle.std.specs.List.{AllByRecursion}
-use Rattle.std.proofs.lemmas.Bool.{cases_lt, cases_eq, cond-true, cond-false, lt-ltb, le-ltb, both_ways}
-use Rattle.std.proofs.lemmas.List.{length_push, nil_from_length}
+use Rattle.std.proofs.lemmas.Bool.{cases_lt, cases_eq, cond-false, le-ltb, both_ways}
+use Rattle.std.proofs.lemmas.List.{length_push}
 use Rattle.std.proofs.ByRecursion.{All-get_or, All-from_get_or, All-push, All-weaker}
-use Rattle.rings.specs.Rings.{Lacks, next, linked, unlinked, drop_at, at, without, cut_out, shifted, slot_after}
+use Rattle.rings.specs.Rings.{Lacks, next, linked, unlinked, drop_at, at, without, cut_out, shifted}
 use Rattle.rings.proofs.Holes.{without_all, without_lacks}
 use Rattle.rings.proofs.Drops.{at_here, at_else, drop_at_all, drop_at_length, without_at}
 use Rattle.rings.proofs.Words.{ring_differ}
 use Rattle.rings.proofs.Shifts.{slot_at, Cuts, cuts, moved_held, moved_ring, moved_drop, moved_still, moved_length}
-use Rattle.rings.proofs.Bounds.{cut_is, shifted_is, after_head}
+use Rattle.rings.proofs.Bounds.{cut_is, shifted_is}
 use Rattle.network.specs.Clauses.{last, has, well_formed}
 use Rattle.rules.specs.Store.{index_off}
 use Rattle.slots.specs.Slots.{ref}
@@ -36,35 +36,6 @@ lifted room ix ws w = record { long = w.long; held = w.held; low = w.low; high =
 -- and as if none does
 pub lowered : (room : ℕ) (ws : List ℕ) → Whole room true ws → rg room ws 2049 ≡ [] → rg room ws 2050 ≡ [] → Whole room false ws
 lowered room ws w a b = record { long = w.long; held = w.held; low = w.low; high = w.high; sizes = w.sizes; wells = w.wells; ends = w.ends; spans = w.spans; sized = w.sized; loose = w.loose; joins = w.joins; used = w.used; off = λ e. (a, b) }
-
--- the reader finds the first of a ring, or that it has none
-abbrev IsNone : Option ℕ → Type 0
-IsNone None = Unit {0}
-IsNone (Some x) = ⊥
-
-abbrev IsSome : Option ℕ → Type 0
-IsSome None = ⊥
-IsSome (Some x) = Unit {0}
-
-abbrev what : Option ℕ → ℕ
-what None = 0
-what (Some x) = x
-
-pub reads_none : (room : ℕ) (ws : List ℕ) → Whole room true ws → (l : ℕ) → l < 2051 → None ≡ slot_after 2051 ws l → rg room ws l ≡ []
-reads_none room ws w l h e =
-    let q = e ∙ after_head 2051 (node_count room) ws w.held l h in
-    elim (cases_lt 0 (length (rg room ws l))) [
-      | inl lt ↦ absurd (subst IsNone (q ∙ cond-true (ltb 0 (length (rg room ws l))) (Some (get_or (rg room ws l) 0 0)) None (lt-ltb 0 (length (rg room ws l)) lt)) tt)
-      | inr ge ↦ nil_from_length (rg room ws l) (omega arith)
-    ]
-
-pub reads_some : (room : ℕ) (ws : List ℕ) → Whole room true ws → (l : ℕ) → l < 2051 → (x : ℕ) → Some x ≡ slot_after 2051 ws l → (0 < length (rg room ws l)) × (get_or (rg room ws l) 0 0 ≡ x)
-reads_some room ws w l h x e =
-    let q = e ∙ after_head 2051 (node_count room) ws w.held l h in
-    elim (cases_lt 0 (length (rg room ws l))) [
-      | inl lt ↦ (lt, sym (ap what (q ∙ cond-true (ltb 0 (length (rg room ws l))) (Some (get_or (rg room ws l) 0 0)) None (lt-ltb 0 (length (rg room ws l)) lt))))
-      | inr ge ↦ absurd (subst IsSome (q ∙ cond-false (ltb 0 (length (rg room ws l))) (Some (get_or (rg room ws l) 0 0)) None (le-ltb 0 (length (rg room ws l)) ge)) tt)
-    ]
 
 -- the first of the sequence taken out
 module _ (room : ℕ) (ws : List ℕ) (w : Whole room true ws) (n : ℕ) (at0 : (0 < length (rg room ws 2050)) × (get_or (rg room ws 2050) 0 0 ≡ n)) where
@@ -227,7 +198,7 @@ module _ (room : ℕ) (ws : List ℕ) (w : Whole room true ws) (none : rg room w
 
 -- what it means
 module _ (room : ℕ) (ix : Bool) (ws us : List ℕ) (some : 0 < room) (k : Kin room ws us) (none : rg room us 2050 ≡ []) (gone : rg room us 2049 ≡ []) where
-  off_owns : (l : ℕ) → own_of room us l ≡ own_of room ws l
+  pub off_owns : (l : ℕ) → own_of room us l ≡ own_of room ws l
   off_owns l = elim (cases_lt l 2048) [ inl h ↦ own_is room us l some h ∙ k.owns l h ∙ sym (own_is room ws l some h) | inr g ↦ own_none room us l g ∙ sym (own_none room ws l g) ]
 
   off_seq : seq_of room us ≡ []
