@@ -14,7 +14,8 @@ use rings::{Slots, after, link, ring, shift, swap_out, unlink};
 use store::check::check_words;
 use store::lists::Lists;
 
-// Clauses in slots, linked in rings.
+// Clauses in slots, linked in rings. Node x + room is the place of slot x in the sequence. A change writes its words in one borrow of
+// them, after which what is said of the fields holds again.
 #[derive(Drop)]
 pub struct Scanned<'a> {
     words: &'a mut [u32],

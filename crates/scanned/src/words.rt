@@ -20,6 +20,12 @@ pub const SEQUENCE: u32 = 2050;
 // How many heads there are, and the node of the first slot.
 pub const HEADS: u32 = 2051;
 
+// How many words a slot has: its length, the length that the index knows it by, and its literals.
+const SLOT: usize = 34;
+
+// The longest clause.
+const LONGEST: usize = 32;
+
 // How many nodes there are.
 pub fn nodes(room: u32) -> u32
     requires { room < 4097 }
@@ -32,7 +38,7 @@ pub fn nodes(room: u32) -> u32
 pub fn text_at(room: u32, x: u32) -> usize
     ensures { result ≡ text_at room x }
 {
-    2 * (HEADS as usize + 2 * room as usize) + 34 * x.saturating_sub(HEADS) as usize
+    2 * (HEADS as usize + 2 * room as usize) + SLOT * x.saturating_sub(HEADS) as usize
 }
 
 // Writes a clause to the words of a slot.
@@ -51,7 +57,7 @@ pub fn well_formed(c: &[u32]) -> bool
     ensures { result ≡ well_formed c.now }
 {
     match c {
-        [.., last] => c.len() <= 32 && InOrder.passes(c) && *last < LITERALS,
+        [.., last] => c.len() <= LONGEST && InOrder.passes(c) && *last < LITERALS,
         [] => false,
     }
 }

@@ -51,10 +51,7 @@ pub trait Lists {
     {
         let mut at = self.first(l);
         for k in 0..i {
-            let Some(h) = at else {
-                return None;
-            };
-            at = self.next(h);
+            at = self.next(at?);
         }
         at
     }

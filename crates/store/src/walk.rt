@@ -10,6 +10,7 @@ pub fn walked<S: Lists>(s: &S, l: u32) -> u32
     s.lawful();
     let mut i = 0;
     let mut at = s.first(l);
+    // A loop, for a handle is tied to its place by a relation, and no function gives the list of those left, as an iterator's would.
     while let Some(h) = at {
         at = s.next(h);
         i += 1;
