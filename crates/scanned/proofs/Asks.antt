@@ -106,9 +106,6 @@ module _ (room : ℕ) (ix : Bool) (ws : List ℕ) (s : Sound room ix ws) (r : 0 
         | inr ge ↦ subst (Says j) (sym (e ∙ cond-false (ltb j (length (rg room ws l))) (Some (get_or (rg room ws l) j 0)) None (le-ltb j (length (rg room ws l)) ge))) (omega arith)
       ]
 
-  pub first_says : (o : Option ℕ) → o ≡ slot_after 2051 ws l → Says 0 o
-  first_says o e = says 0 o (omega arith) (e ∙ after_head 2051 (node_count room) ws (s r).held l (omega arith))
-
   pub next_says : (k i : ℕ) → At room ws k l i → (o : Option ℕ) → o ≡ slot_after 2051 ws k → Says (i + 1) o
   next_says k i a o e =
       let p = at_ring room ix ws s k l i a in

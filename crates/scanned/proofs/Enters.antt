@@ -116,9 +116,6 @@ enter_full room ix ws c r w e =
     let z = ap length e in
     and_right (well_formed c) (ltb (kept_clauses (meaning_of room ix ws)) room) (le-ltb (kept_clauses (meaning_of room ix ws)) room (omega arith))
 
-pub enter_bare : (room : ℕ) (ix : Bool) (ws c : List ℕ) → room ≡ 0 → enterable (meaning_of room ix ws) c ≡ false
-enter_bare room ix ws c e = and_right (well_formed c) (ltb (kept_clauses (meaning_of room ix ws)) room) (le-ltb (kept_clauses (meaning_of room ix ws)) room (omega arith))
-
 pub enter_fits : (room : ℕ) (ix : Bool) (ws c : List ℕ) → 0 < room → Whole room ix ws → 0 < length (rg room ws 2048) → well_formed c ≡ true → enterable (meaning_of room ix ws) c ≡ true
 enter_fits room ix ws c r w z g =
     let a = kept_is_all room ix ws r w in

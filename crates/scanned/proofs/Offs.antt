@@ -11,20 +11,17 @@ use Rattle.rings.proofs.Drops.{at_here, at_else, drop_at_all, drop_at_length, wi
 use Rattle.rings.proofs.Words.{ring_differ}
 use Rattle.rings.proofs.Shifts.{slot_at, Cuts, cuts, moved_held, moved_ring, moved_drop, moved_still, moved_length}
 use Rattle.rings.proofs.Bounds.{cut_is, shifted_is}
-use Rattle.network.specs.Clauses.{last, has, well_formed}
+use Rattle.network.specs.Clauses.{last, has}
 use Rattle.rules.specs.Store.{index_off}
 use Rattle.slots.specs.Slots.{ref}
 use Rattle.slots.proofs.Slots.{same_meaning}
-use Rattle.scanned.specs.Sums.{total, any_to}
-use Rattle.scanned.specs.Layout.{node_count, rg, text_at, text_of, was_of, own_of, seq_of, used_of, dead_of, meaning_of, passes, Whole, Kin}
+use Rattle.scanned.specs.Sums.{total}
+use Rattle.scanned.specs.Layout.{node_count, rg, text_of, was_of, own_of, seq_of, used_of, dead_of, meaning_of, Whole, Kin}
 use Rattle.scanned.proofs.Wholes.{own_is, own_none}
 use Rattle.scanned.proofs.Totals.{total_same}
-use Rattle.scanned.proofs.Admits.{seq_is, dead_is, passes_same}
-use Rattle.scanned.proofs.Joins.{text_past, was_past, size_past}
+use Rattle.scanned.proofs.Admits.{seq_is, dead_is}
+use Rattle.scanned.proofs.Joins.{Short, Well, Ends, Spanned, InUse, text_past, sizes_past, wells_past, ends_past, spans_past, useds_past}
 use Rattle.scanned.proofs.Removes.{lacks_without}
-
-pub kin_same : (room : ℕ) (ws : List ℕ) → Kin room ws ws
-kin_same room ws = record { long = refl; owns = λ l h. refl; past = refl }
 
 pub kin_then : (room : ℕ) (ws vs us : List ℕ) → Kin room ws vs → Kin room vs us → Kin room ws us
 kin_then room ws vs us a b = record { long = b.long ∙ a.long; owns = λ l h. b.owns l h ∙ a.owns l h; past = b.past ∙ a.past }
@@ -73,9 +70,6 @@ module _ (room : ℕ) (ws : List ℕ) (w : Whole room true ws) (n : ℕ) (at0 : 
   long1 : length vs ≡ length ws
   long1 = simp length-set
 
-  past1 : (k : ℕ) → 2 * N ≤ k → get_or vs k 0 ≡ get_or ws k 0
-  past1 = size_past room ws vs c1.drop'
-
   pub cut_shorter : length (rg room vs 2050) < length (Q 2050)
   cut_shorter =
       let e : length (rg room vs 2050) ≡ length (Q 2050) - 1 = ap length (rs ∙ ap (λ (y : ℕ). without y (Q 2050)) (sym at0.1) ∙ without_at 0 (Q 2050) at0.0 (ring_differ 2051 N ws w.held 2050 (omega arith))) ∙ drop_at_length 0 (Q 2050) at0.0 in
@@ -91,10 +85,10 @@ module _ (room : ℕ) (ws : List ℕ) (w : Whole room true ws) (n : ℕ) (at0 : 
     held = c1.held';
     low = λ l h. subst (AllByRecursion (λ y. y < 2051 + room)) (sym (r1 l h)) (w.low l h);
     high = subst (AllByRecursion (λ y. 2051 + room ≤ y)) (sym rs) (without_all (λ y. 2051 + room ≤ y) n (Q 2050) w.high);
-    sizes = λ l h. subst (AllByRecursion (λ y. get_or vs (text_at room y) 0 < 33)) (sym (r1 l (omega arith))) (All-weaker (λ y. get_or ws (text_at room y) 0 < 33) (λ y. get_or vs (text_at room y) 0 < 33) (λ y q. let e = past1 (text_at room y) (omega arith) in omega arith) (Q l) (w.sizes l h));
-    wells = λ l h. subst (AllByRecursion (λ y. well_formed (text_of room vs y) ≡ true)) (sym (r1 l (omega arith))) (All-weaker (λ y. well_formed (text_of room ws y) ≡ true) (λ y. well_formed (text_of room vs y) ≡ true) (λ y q. ap well_formed (text_past room ws vs c1.drop' y) ∙ q) (Q l) (w.wells l h));
-    ends = λ l h. subst (AllByRecursion (λ y. last (text_of room vs y) ≡ l)) (sym (r1 l (omega arith))) (All-weaker (λ y. last (text_of room ws y) ≡ l) (λ y. last (text_of room vs y) ≡ l) (λ y q. ap last (text_past room ws vs c1.drop' y) ∙ q) (Q l) (w.ends l h));
-    spans = subst (AllByRecursion (λ y. (get_or vs (text_at room (y - room)) 0 < 33) × (get_or vs (text_at room (y - room) + 1) 0 < 33))) (sym rs) (without_all (λ y. (get_or vs (text_at room (y - room)) 0 < 33) × (get_or vs (text_at room (y - room) + 1) 0 < 33)) n (Q 2050) (All-weaker (λ y. (get_or ws (text_at room (y - room)) 0 < 33) × (get_or ws (text_at room (y - room) + 1) 0 < 33)) (λ y. (get_or vs (text_at room (y - room)) 0 < 33) × (get_or vs (text_at room (y - room) + 1) 0 < 33)) (λ y q. let e = past1 (text_at room (y - room)) (omega arith) in let f = past1 (text_at room (y - room) + 1) (omega arith) in let q0 = q.0 in let q1 = q.1 in (omega arith, omega arith)) (Q 2050) w.spans));
+    sizes = λ l h. subst (AllByRecursion (Short room vs)) (sym (r1 l (omega arith))) (sizes_past room ws vs c1.drop' (Q l) (w.sizes l h));
+    wells = λ l h. subst (AllByRecursion (Well room vs)) (sym (r1 l (omega arith))) (wells_past room ws vs c1.drop' (Q l) (w.wells l h));
+    ends = λ l h. subst (AllByRecursion (Ends room vs l)) (sym (r1 l (omega arith))) (ends_past room ws vs c1.drop' l (Q l) (w.ends l h));
+    spans = subst (AllByRecursion (λ y. Spanned room vs (y - room))) (sym rs) (without_all (λ y. Spanned room vs (y - room)) n (Q 2050) (spans_past room ws vs c1.drop' (Q 2050) w.spans));
     sized = let t = total_same 2048 (λ l. length (rg room vs l)) (λ l. length (Q l)) (λ l h. ap length (r1 l (omega arith))) in let a = ap length (r1 2048 (omega arith)) in let b = ap length (r1 2049 (omega arith)) in let z = w.sized in omega arith;
     loose = subst (AllByRecursion (λ y. next vs (y + room) ≡ y + room)) (sym (r1 2048 (omega arith))) (All-from_get_or (λ y. next vs (y + room) ≡ y + room) (Q 2048) 0 (λ j k.
         let q = All-get_or (λ y. y < 2051 + room) (Q 2048) j 0 k (w.low 2048 (omega arith)) in
@@ -103,7 +97,7 @@ module _ (room : ℕ) (ws : List ℕ) (w : Whole room true ws) (n : ℕ) (at0 : 
       | inl e ↦ ap (next vs) e ∙ c1.alone' ∙ sym e
       | inr ne ↦ c1.still' m h (w.joins m g h (lacks_without m n (Q 2050) ne (subst (Lacks m) rs lk)))
     ];
-    used = subst (AllByRecursion (λ y. any_to 2048 (λ k. passes room vs k (y - room)) ≡ true)) (sym rs) (without_all (λ y. any_to 2048 (λ k. passes room vs k (y - room)) ≡ true) n (Q 2050) (All-weaker (λ y. any_to 2048 (λ k. passes room ws k (y - room)) ≡ true) (λ y. any_to 2048 (λ k. passes room vs k (y - room)) ≡ true) (λ y q. passes_same room ws vs (y - room) (text_past room ws vs c1.drop' (y - room)) (was_past room ws vs c1.drop' (y - room)) ∙ q) (Q 2050) w.used));
+    used = subst (AllByRecursion (λ y. InUse room vs (y - room))) (sym rs) (without_all (λ y. InUse room vs (y - room)) n (Q 2050) (useds_past room ws vs c1.drop' (Q 2050) w.used));
     off = λ e. absurd (both_ways true e refl);
   }
 
@@ -164,9 +158,6 @@ module _ (room : ℕ) (ws : List ℕ) (w : Whole room true ws) (none : rg room w
   pub free_kin : Kin room ws us
   free_kin = record { long = long2; owns = r_low; past = dr }
 
-  past2 : (k : ℕ) → 2 * node_count room ≤ k → get_or us k 0 ≡ get_or ws k 0
-  past2 = size_past room ws us dr
-
   x_alone : next us (x + room) ≡ x + room
   x_alone = let a = xs.0 in let b = xs.1 in stays (x + room) (omega arith) (omega arith) (w.joins (x + room) (omega arith) (omega arith) (subst (Lacks (x + room)) (sym none) tt))
 
@@ -182,17 +173,17 @@ module _ (room : ℕ) (ws : List ℕ) (w : Whole room true ws) (none : rg room w
       ]
     ];
     high = subst (AllByRecursion (λ y. 2051 + room ≤ y)) (sym free_none) tt;
-    sizes = λ l h. subst (AllByRecursion (λ y. get_or us (text_at room y) 0 < 33)) (sym (r_low l h)) (All-weaker (λ y. get_or ws (text_at room y) 0 < 33) (λ y. get_or us (text_at room y) 0 < 33) (λ y q. let e = past2 (text_at room y) (omega arith) in omega arith) (P l) (w.sizes l h));
-    wells = λ l h. subst (AllByRecursion (λ y. well_formed (text_of room us y) ≡ true)) (sym (r_low l h)) (All-weaker (λ y. well_formed (text_of room ws y) ≡ true) (λ y. well_formed (text_of room us y) ≡ true) (λ y q. ap well_formed (text_past room ws us dr y) ∙ q) (P l) (w.wells l h));
-    ends = λ l h. subst (AllByRecursion (λ y. last (text_of room us y) ≡ l)) (sym (r_low l h)) (All-weaker (λ y. last (text_of room ws y) ≡ l) (λ y. last (text_of room us y) ≡ l) (λ y q. ap last (text_past room ws us dr y) ∙ q) (P l) (w.ends l h));
-    spans = subst (AllByRecursion (λ y. (get_or us (text_at room (y - room)) 0 < 33) × (get_or us (text_at room (y - room) + 1) 0 < 33))) (sym free_none) tt;
+    sizes = λ l h. subst (AllByRecursion (Short room us)) (sym (r_low l h)) (sizes_past room ws us dr (P l) (w.sizes l h));
+    wells = λ l h. subst (AllByRecursion (Well room us)) (sym (r_low l h)) (wells_past room ws us dr (P l) (w.wells l h));
+    ends = λ l h. subst (AllByRecursion (Ends room us l)) (sym (r_low l h)) (ends_past room ws us dr l (P l) (w.ends l h));
+    spans = subst (AllByRecursion (λ y. Spanned room us (y - room))) (sym free_none) tt;
     sized = let t = total_same 2048 (λ l. length (rg room us l)) (λ l. length (P l)) (λ l h. ap length (r_low l h)) in let a = ap length r_free ∙ length_push (P 2048) x in let b = gone_length in let c = at0.0 in let z = w.sized in omega arith;
     loose = subst (AllByRecursion (λ y. next us (y + room) ≡ y + room)) (sym r_free) (All-push (λ y. next us (y + room) ≡ y + room) (P 2048) x (All-from_get_or (λ y. next us (y + room) ≡ y + room) (P 2048) 0 (λ j k.
         let p = (slot_at 2051 (node_count room) ws w.held 2048 j (omega arith) k).0 in
         let q = All-get_or (λ y. y < 2051 + room) (P 2048) j 0 k (w.low 2048 (omega arith)) in
         stays (get_or (P 2048) j 0 + room) (omega arith) (omega arith) (All-get_or (λ y. next ws (y + room) ≡ y + room) (P 2048) j 0 k w.loose))) x_alone);
     joins = λ m g h lk. stays m (omega arith) h (w.joins m g h (subst (Lacks m) (sym none) tt));
-    used = subst (AllByRecursion (λ y. any_to 2048 (λ k. passes room us k (y - room)) ≡ true)) (sym free_none) tt;
+    used = subst (AllByRecursion (λ y. InUse room us (y - room))) (sym free_none) tt;
     off = λ e. absurd (both_ways true e refl);
   }
 

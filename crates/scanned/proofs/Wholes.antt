@@ -82,6 +82,3 @@ module _ (room : ℕ) (ix : Bool) (ws : List ℕ) (s : Sound room ix ws) where
     ends = own_by (λ l xs. AllByRecursion (λ x. last (text_of room ws x) ≡ l) xs) room ws (λ l. tt) (λ r. (s r).ends);
     differ = own_by (λ l xs. Differ xs) room ws (λ l. tt) (λ r l h. ring_differ 2051 (node_count room) ws (s r).held l (omega arith));
   }
-
-  pub wells_are : (l : ℕ) → AllByRecursion (λ x. well_formed (text_of room ws x) ≡ true) (own_of room ws l)
-  wells_are = own_by (λ l xs. AllByRecursion (λ x. well_formed (text_of room ws x) ≡ true) xs) room ws (λ l. tt) (λ r. (s r).wells)
