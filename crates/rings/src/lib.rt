@@ -2,7 +2,8 @@
 //
 // Holds the writers of rings (`unlink`, `link`, `shift`, `swap_out`, `scatter`), the readers `after` and `ring`, and the laws that
 // say what each makes of the lists (specs/, proofs/). Node n has two words: at 2n the node after it, at 2n + 1 the node before it.
-// Nodes below a number of heads are heads; the others are slots, and a slot in no ring is linked to itself.
+// Nodes below a number of heads are heads; the others are slots, and a slot in no ring is linked to itself. The links are numbers in
+// words, for a store has no memory but what it is lent.
 // Promises: each function writes and answers exactly what its definition says, on any words at all, and asks nothing of a
 // caller; where rings stand, each changes the lists as the laws say. Rests on nothing but the standard library.
 #![tactic(auto)]

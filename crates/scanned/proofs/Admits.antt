@@ -12,8 +12,8 @@ use Rattle.rings.proofs.Shifts.{slot_at, lacks_other, same_held, same_ring, move
 use Rattle.network.specs.Clauses.{last, has, well_formed}
 use Rattle.scanned.specs.Sums.{total, any_to}
 use Rattle.scanned.specs.Layout.{node_count, rg, text_at, text_of, was_of, own_of, seq_of, dead_of, passes, Whole, Wrote, Admitted, Loose}
-use Rattle.scanned.proofs.Wholes.{own_is, own_none, own_by}
-use Rattle.scanned.proofs.Totals.{total_same, total_at}
+use Rattle.scanned.proofs.Wholes.{own_by, own_changed, own_total}
+use Rattle.scanned.proofs.Totals.{total_at}
 use Rattle.rings.specs.Rings.{shifted}
 use Rattle.rings.proofs.Bounds.{shifted_is}
 use Rattle.rules.proofs.Formed.{Formed}
@@ -231,13 +231,7 @@ module _ (room : ℕ) (ix : Bool) (ws vs : List ℕ) (w : Whole room ix ws) (som
         slot = x_slot;
         fresh = own_by (λ l xs. Lacks x xs) room ws (λ l. tt) (λ r l h. subst (λ (y : ℕ). Lacks y (Q l)) place.1 (lacks_other 2051 N ws w.held 2048 0 l (omega arith) (omega arith) place.0 (λ q. omega arith)));
         unused = subst (Lacks x) (sym (seq_is room ws some)) (all_of_map (λ y. y ≡ x → ⊥) (λ n. n - room) (Q 2050) (each_seq (λ y. Unit {0}) (λ y. y ≡ x → ⊥) (λ y a b n p. n) (All-from_get_or (λ n. Unit {0}) (Q 2050) 0 (λ i k. tt))));
-        owns = λ l. elim (cases_lt l 2048) [
-          | inr ge ↦ own_none room us l ge ∙ sym (own_none room ws l ge) ∙ sym (at_else (own_of room ws) l0 (own_of room ws l0 ++ (x ∷ [])) l (λ q. omega arith))
-          | inl lt ↦ elim (cases_eq l l0) [
-            | inl e ↦ own_is room us l some lt ∙ ring_own l e ∙ ap (λ (ys : List ℕ). ys ++ (x ∷ [])) (sym (own_is room ws l0 some ll)) ∙ sym (at_here (own_of room ws) l0 (own_of room ws l0 ++ (x ∷ [])) l e)
-            | inr n ↦ own_is room us l some lt ∙ ring_else l (omega arith) n (λ q. omega arith) ∙ sym (own_is room ws l some lt) ∙ sym (at_else (own_of room ws) l0 (own_of room ws l0 ++ (x ∷ [])) l n)
-          ]
-        ];
+        owns = own_changed room ws some us l0 (λ ys. ys ++ (x ∷ [])) ll (ring_own l0 refl) (λ l h n. ring_else l (omega arith) n (λ q. omega arith));
         seqs = seq_is room us some ∙ ap (map (λ n. n - room)) (ring_else 2050 (omega arith) (λ q. omega arith) (λ q. omega arith)) ∙ sym (seq_is room ws some);
         deads = dead_is room us some ∙ ap length (ring_else 2049 (omega arith) (λ q. omega arith) (λ q. omega arith)) ∙ sym (dead_is room ws some);
         here = text_here;
@@ -249,8 +243,8 @@ module _ (room : ℕ) (ix : Bool) (ws vs : List ℕ) (w : Whole room ix ws) (som
 
   pub admit_live : total 2048 (λ l. length (own_of room us l)) ≡ total 2048 (λ l. length (own_of room ws l)) + 1
   admit_live =
-      let a = total_same 2048 (λ l. length (own_of room us l)) (λ l. length (rg room us l)) (λ l h. ap length (own_is room us l some h)) in
-      let b = total_same 2048 (λ l. length (own_of room ws l)) (λ l. length (Q l)) (λ l h. ap length (own_is room ws l some h)) in
+      let a = own_total room us some in
+      let b = own_total room ws some in
       let t = admit_total in
       omega arith
 

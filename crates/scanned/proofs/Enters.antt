@@ -13,7 +13,7 @@ use Rattle.scanned.specs.Sums.{total, any_to}
 use Rattle.slots.specs.Slots.{meant}
 use Rattle.slots.proofs.Slots.{entered_is}
 use Rattle.scanned.specs.Layout.{rg, text_of, was_of, own_of, seq_of, used_of, dead_of, meaning_of, passes, Whole, Admitted, Joined}
-use Rattle.scanned.proofs.Wholes.{own_is}
+use Rattle.scanned.proofs.Wholes.{own_total}
 use Rattle.scanned.proofs.Totals.{total_same}
 use Rattle.network.specs.Assignments.{node}
 use Rattle.network.specs.Clauses.{Ordered}
@@ -105,7 +105,7 @@ module _ (room : ℕ) (ix : Bool) (ws vs : List ℕ) (x : ℕ) (c : List ℕ) (a
 pub kept_is_all : (room : ℕ) (ix : Bool) (ws : List ℕ) → 0 < room → Whole room ix ws → kept_clauses (meaning_of room ix ws) + length (rg room ws 2048) ≡ room
 kept_is_all room ix ws r w =
     let a = live_is room ix ws in
-    let b = total_same 2048 (λ l. length (own_of room ws l)) (λ l. length (rg room ws l)) (λ l h. ap length (own_is room ws l r h)) in
+    let b = own_total room ws r in
     let d = dead_is room ws r in
     let z = w.sized in
     omega arith

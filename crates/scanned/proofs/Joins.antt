@@ -1,8 +1,8 @@
 -- A slot more in the sequence. Assumes nothing.
-use Rattle.std.proofs.Common.{◌≡◌, ℕ, ◌+◌, ◌-◌, ◌*◌, ◌<◌, ◌≤◌, Bool, true, not, ◌&&◌, eqb, List, [], ◌∷◌, ◌++◌, map, length, get_or, take, drop, sym, refl, ap, ◌∙◌, subst, inl, inr, arith}
+use Rattle.std.proofs.Common.{◌≡◌, ℕ, ◌+◌, ◌-◌, ◌*◌, ◌<◌, ◌≤◌, Bool, true, not, ◌&&◌, eqb, List, [], ◌∷◌, ◌++◌, map, length, get_or, take, drop, sym, refl, ap, ◌∙◌, subst, arith}
 use mathlib.Core.Path.{fun_ext}
 use Rattle.std.specs.List.{AllByRecursion}
-use Rattle.std.proofs.lemmas.Bool.{cases_lt, both_ways}
+use Rattle.std.proofs.lemmas.Bool.{both_ways}
 use Rattle.std.proofs.lemmas.List.{map_push}
 use Rattle.std.proofs.ByRecursion.{All-get_or, All-from_get_or, All-push, All-weaker}
 use Rattle.rings.specs.Rings.{next, Held, linked, at}
@@ -15,7 +15,7 @@ use Rattle.rings.proofs.Bounds.{put_is}
 use Rattle.network.specs.Clauses.{last, has, well_formed}
 use Rattle.scanned.specs.Sums.{any_to}
 use Rattle.scanned.specs.Layout.{node_count, rg, text_at, text_of, was_of, passes, Whole, Joined, Loose}
-use Rattle.scanned.proofs.Wholes.{own_is, own_none}
+use Rattle.scanned.proofs.Wholes.{own_same}
 use Rattle.scanned.proofs.Totals.{total_same}
 use Rattle.scanned.proofs.Frames.{from_drop, drop_more}
 use Rattle.scanned.proofs.Admits.{seq_is, dead_is, passes_same}
@@ -155,7 +155,7 @@ module _ (room : ℕ) (ix : Bool) (ws : List ℕ) (w : Whole room ix ws) (some :
 
   pub join_is : Joined room ws vs x
   join_is = record {
-    owns = λ l. elim (cases_lt l 2048) [ inl h ↦ own_is room vs l some h ∙ else1 l (omega arith) ∙ sym (own_is room ws l some h) | inr g ↦ own_none room vs l g ∙ sym (own_none room ws l g) ];
+    owns = own_same room ws some vs (λ l h. else1 l (omega arith));
     seqs = seq_is room vs some ∙ ap (map (λ m. m - room)) seq1 ∙ map_push (λ m. m - room) (Q 2050) n ∙ (let e : n - room ≡ x = omega arith in let f = seq_is room ws some in cc);
     deads = dead_is room vs some ∙ ap length (else1 2049 (omega arith)) ∙ sym (dead_is room ws some);
     texts = text_past room ws vs dropped;

@@ -17,7 +17,7 @@ use Rattle.slots.specs.Slots.{ref}
 use Rattle.slots.proofs.Slots.{same_meaning}
 use Rattle.scanned.specs.Sums.{total}
 use Rattle.scanned.specs.Layout.{node_count, rg, text_of, was_of, own_of, seq_of, used_of, dead_of, meaning_of, Whole, Kin}
-use Rattle.scanned.proofs.Wholes.{own_is, own_none}
+use Rattle.scanned.proofs.Wholes.{own_same}
 use Rattle.scanned.proofs.Totals.{total_same}
 use Rattle.scanned.proofs.Admits.{seq_is, dead_is}
 use Rattle.scanned.proofs.Joins.{Short, Well, Ends, Spanned, InUse, text_past, sizes_past, wells_past, ends_past, spans_past, useds_past}
@@ -190,7 +190,7 @@ module _ (room : ℕ) (ws : List ℕ) (w : Whole room true ws) (none : rg room w
 -- what it means
 module _ (room : ℕ) (ix : Bool) (ws us : List ℕ) (some : 0 < room) (k : Kin room ws us) (none : rg room us 2050 ≡ []) (gone : rg room us 2049 ≡ []) where
   pub off_owns : (l : ℕ) → own_of room us l ≡ own_of room ws l
-  off_owns l = elim (cases_lt l 2048) [ inl h ↦ own_is room us l some h ∙ k.owns l h ∙ sym (own_is room ws l some h) | inr g ↦ own_none room us l g ∙ sym (own_none room ws l g) ]
+  off_owns = own_same room ws some us k.owns
 
   off_seq : seq_of room us ≡ []
   off_seq = seq_is room us some ∙ ap (map (λ n. n - room)) none

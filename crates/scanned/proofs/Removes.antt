@@ -19,8 +19,8 @@ use Rattle.slots.specs.Slots.{filled_by_last}
 use Rattle.slots.specs.Slots.{meant}
 use Rattle.slots.proofs.Slots.{removed_is}
 use Rattle.scanned.specs.Layout.{node_count, rg, text_of, own_of, seq_of, used_of, dead_of, meaning_of, passes, Whole, Sound, At}
-use Rattle.scanned.proofs.Wholes.{own_is, own_none, kept_is}
-use Rattle.scanned.proofs.Totals.{total_same, total_at}
+use Rattle.scanned.proofs.Wholes.{kept_is, own_changed, own_total}
+use Rattle.scanned.proofs.Totals.{total_at}
 use Rattle.scanned.proofs.Admits.{seq_is, dead_is}
 use Rattle.scanned.proofs.Joins.{Short, Well, Ends, Spanned, InUse, text_past, sizes_past, wells_past, ends_past, spans_past, useds_past, passes_past}
 use Rattle.scanned.proofs.Asks.{at_literal, at_ring, at_slot, at_low}
@@ -248,21 +248,13 @@ module _ (room : ℕ) (ix : Bool) (ws : List ℕ) (w : Whole room ix ws) (some :
 
   pub remove_live : total 2048 (λ m. length (own_of room v3 m)) + 1 ≡ total 2048 (λ m. length (own_of room ws m))
   remove_live =
-      let p = total_same 2048 (λ m. length (own_of room v3 m)) (λ m. length (rg room v3 m)) (λ m h. ap length (own_is room v3 m some h)) in
-      let q = total_same 2048 (λ m. length (own_of room ws m)) (λ m. length (Q m)) (λ m h. ap length (own_is room ws m some h)) in
+      let p = own_total room v3 some in
+      let q = own_total room ws some in
       let t = remove_total in
       omega arith
 
   owns : (m : ℕ) → own_of room v3 m ≡ at (own_of room ws) l (filled_by_last 0 i (own_of room ws l)) m
-  owns m =
-      let e = own_is room ws l some ll in
-      elim (cases_lt m 2048) [
-        | inr g ↦ let p = ll in own_none room v3 m g ∙ sym (own_none room ws m g) ∙ sym (at_else (own_of room ws) l (filled_by_last 0 i (own_of room ws l)) m (λ q. omega arith))
-        | inl h ↦ elim (cases_eq m l) [
-          | inl q ↦ own_is room v3 m some h ∙ ring_own m q ∙ ap (filled_by_last 0 i) (sym e) ∙ sym (at_here (own_of room ws) l (filled_by_last 0 i (own_of room ws l)) m q)
-          | inr ne ↦ own_is room v3 m some h ∙ ring_else m (omega arith) ne (λ q. omega arith) ∙ sym (own_is room ws m some h) ∙ sym (at_else (own_of room ws) l (filled_by_last 0 i (own_of room ws l)) m ne)
-        ]
-      ]
+  owns = own_changed room ws some v3 l (filled_by_last 0 i) ll (ring_own l refl) (λ m h ne. ring_else m (omega arith) ne (λ q. omega arith))
 
   seqs : seq_of room v3 ≡ without x (seq_of room ws)
   seqs =

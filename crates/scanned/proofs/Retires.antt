@@ -19,10 +19,10 @@ use Rattle.slots.specs.Slots.{meant}
 use Rattle.slots.proofs.Slots.{member}
 use Rattle.slots.proofs.Changes.{retired_is}
 use Rattle.scanned.specs.Layout.{node_count, rg, text_of, own_of, seq_of, used_of, dead_of, meaning_of, passes, Whole, Sound, At}
-use Rattle.scanned.proofs.Wholes.{own_is, own_none, kept_is}
+use Rattle.scanned.proofs.Wholes.{kept_is, own_changed, own_total}
 use Rattle.network.specs.Lists.{any_of}
 use Rattle.rules.specs.Store.{literals}
-use Rattle.scanned.proofs.Totals.{total_same, total_at, any_literals}
+use Rattle.scanned.proofs.Totals.{total_at, any_literals}
 use Rattle.scanned.proofs.Admits.{seq_is, dead_is}
 use Rattle.scanned.proofs.Joins.{Short, Well, Ends, Spanned, InUse, text_past, sizes_past, wells_past, ends_past, spans_past, useds_past, passes_past}
 use Rattle.scanned.proofs.Asks.{at_literal, at_ring, at_slot, at_low}
@@ -216,21 +216,13 @@ module _ (room : ℕ) (ix : Bool) (ws : List ℕ) (w : Whole room ix ws) (some :
 
     pub retire_live : total 2048 (λ m. length (own_of room vs m)) + 1 ≡ total 2048 (λ m. length (own_of room ws m))
     retire_live =
-        let p = total_same 2048 (λ m. length (own_of room vs m)) (λ m. length (rg room vs m)) (λ m k. ap length (own_is room vs m some k)) in
-        let q = total_same 2048 (λ m. length (own_of room ws m)) (λ m. length (Q m)) (λ m k. ap length (own_is room ws m some k)) in
+        let p = own_total room vs some in
+        let q = own_total room ws some in
         let t = retire_total in
         omega arith
 
     owns : (m : ℕ) → own_of room vs m ≡ at (own_of room ws) l (drop_at i (own_of room ws l)) m
-    owns m =
-        let e = own_is room ws l some ll in
-        elim (cases_lt m 2048) [
-          | inr g ↦ let p = ll in own_none room vs m g ∙ sym (own_none room ws m g) ∙ sym (at_else (own_of room ws) l (drop_at i (own_of room ws l)) m (λ q. omega arith))
-          | inl k ↦ elim (cases_eq m l) [
-            | inl q ↦ own_is room vs m some k ∙ ring_own m q ∙ ap (drop_at i) (sym e) ∙ sym (at_here (own_of room ws) l (drop_at i (own_of room ws l)) m q)
-            | inr ne ↦ let q = hb.0 in own_is room vs m some k ∙ ring_else m (omega arith) ne (λ z. omega arith) ∙ sym (own_is room ws m some k) ∙ sym (at_else (own_of room ws) l (drop_at i (own_of room ws l)) m ne)
-          ]
-        ]
+    owns = let q = hb.0 in own_changed room ws some vs l (drop_at i) ll (ring_own l refl) (λ m k ne. ring_else m (omega arith) ne (λ z. omega arith))
 
     useds : used_of room vs ≡ used_of room ws
     unfolding used_of

@@ -1,18 +1,14 @@
 -- What the facts of a store say. Assumes nothing.
 use Rattle.std.proofs.Common.{◌≡◌, ℕ, ◌<◌, Bool, List, length, arith}
-use Rattle.rules.specs.Store.{Meaning}
 use Rattle.rules.specs.Lawful.{Lawful}
 use Rattle.rules.proofs.Lawful.{own_few}
 use Rattle.scanned.specs.declared.scanned.Scanned.{Scanned}
 use Rattle.scanned.specs.Sums.{total}
+use Rattle.scanned.specs.Means.{means}
 use Rattle.scanned.specs.Layout.{own_of, meaning_of, Sound, Law}
 use Rattle.scanned.proofs.Asks.{own_length}
 use Rattle.scanned.proofs.Laws.{law, to_law}
 use Rattle.scanned.proofs.Wholes.{sound}
-
--- what a store means
-abbrev pub means : Scanned → Meaning
-means s = meaning_of s.room s.indexed s.words.now
 
 pub stands : (s : Scanned) → Sound s.room s.indexed s.words.now
 stands s = sound s.whole

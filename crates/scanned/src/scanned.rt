@@ -29,6 +29,8 @@ pub struct Scanned<'a> {
 }
 
 impl<'a> Scanned<'a> {
+    ghost use Rattle.scanned.specs.Means.{means};
+
     // Whether such a store can have this room in so many words.
     pub fn check(room: u32, words: usize) -> Result<(), Fault>
         ensures { result ≡ checked 48 4096 room words }
@@ -38,7 +40,7 @@ impl<'a> Scanned<'a> {
 
     // A store in these words. Where it cannot be made, it has no room.
     pub fn new(words: &'a mut [u32], room: u32) -> Self
-        ensures { meaning_of result.room result.indexed result.words.now ≡ blank (if fitting room (length words.old) then room else 0) }
+        ensures { means result ≡ blank (if fitting room (length words.old) then room else 0) }
     {
         let room = if Self::check(room, words.len()).is_ok() {
             clear(words, room);
@@ -69,8 +71,8 @@ impl<'a> Scanned<'a> {
     // Takes place i out of the own list of l, whose last clause comes there, and out of every list of uses. The answer is no, with
     // nothing changed, where there is no such place.
     pub fn remove(&mut self, l: u32, i: u32) -> bool
-        ensures when { result ≡ present (meaning_of self.old.room self.old.indexed self.old.words.now) l i }
-        ensures makes { meaning_of self.new.room self.new.indexed self.new.words.now ≡ (if result then removed l i (meaning_of self.old.room self.old.indexed self.old.words.now) else meaning_of self.old.room self.old.indexed self.old.words.now) }
+        ensures when { result ≡ present (means self.old) l i }
+        ensures makes { means self.new ≡ (if result then removed l i (means self.old) else means self.old) }
     {
         let Some(x) = self.nth(l, i) else {
             return false;
@@ -86,8 +88,8 @@ impl<'a> Scanned<'a> {
     // Takes place i out of the own list of l, order kept. Lists of uses that have the clause keep it, dead. The answer is no, with
     // nothing changed, where there is no such place.
     pub fn retire(&mut self, l: u32, i: u32) -> bool
-        ensures when { result ≡ present (meaning_of self.old.room self.old.indexed self.old.words.now) l i }
-        ensures makes { meaning_of self.new.room self.new.indexed self.new.words.now ≡ (if result then retired l i (meaning_of self.old.room self.old.indexed self.old.words.now) else meaning_of self.old.room self.old.indexed self.old.words.now) }
+        ensures when { result ≡ present (means self.old) l i }
+        ensures makes { means self.new ≡ (if result then retired l i (means self.old) else means self.old) }
     {
         let Some(x) = self.nth(l, i) else {
             return false;
@@ -105,13 +107,15 @@ impl<'a> Scanned<'a> {
 }
 
 impl Lists for Scanned<'_> {
+    ghost use Rattle.scanned.specs.Means.{means};
+
     type Handle = u32;
 
     const EACH: u16 = 48;
 
     const FIXED: u16 = 4096;
 
-    ghost meaning = { λ s. meaning_of s.room s.indexed s.words.now };
+    ghost meaning = { means };
 
     ghost at = { λ s h l i. At s.room s.words.now h l i };
 

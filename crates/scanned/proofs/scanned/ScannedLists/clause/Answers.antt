@@ -3,7 +3,8 @@ use Rattle.std.specs.Option.{unwrap_or}
 use Rattle.rules.specs.Store.{clause_at}
 use Rattle.scanned.specs.Layout.{text_at, text_of}
 use Rattle.scanned.proofs.Asks.{at_room, at_low, at_size, at_clause, unwrapped}
-use Rattle.scanned.proofs.Stores.{means, stands}
+use Rattle.scanned.specs.Means.{means}
+use Rattle.scanned.proofs.Stores.{stands}
 use Rattle.scanned.proofs.scanned.ScannedLists.clause.Goals as goal
 
 pub returns : goal.returns
