@@ -33,9 +33,6 @@ module _ (heads nodes : ℕ) (ws : List ℕ) (held : Held heads nodes ws) where
   pub ring_differ : (l : ℕ) → l < heads → Differ (ring heads nodes ws l)
   ring_differ l h = path_differ (next ws) (prev ws) heads l (ring heads nodes ws l) (held.1.1 l h) h (ring_slots l h).0
 
-  pub ring_few : (l : ℕ) → l < heads → length (ring heads nodes ws l) ≤ nodes
-  ring_few l h = few nodes (ring heads nodes ws l) (ring_differ l h) (ring_slots l h).1
-
   -- a slot in a ring does not stand alone
   pub not_alone : (l i : ℕ) → l < heads → i < length (ring heads nodes ws l) → prev ws (get_or (ring heads nodes ws l) i 0) ≡ get_or (ring heads nodes ws l) i 0 → ⊥
   not_alone l zero h k e =
@@ -59,9 +56,6 @@ module _ (heads nodes : ℕ) (ws : List ℕ) (held : Held heads nodes ws) where
 module _ (ws : List ℕ) (i1 v1 i2 v2 i3 v3 i4 v4 : ℕ) where
   abbrev pub four : List ℕ
   four = set (set (set (set ws i1 v1) i2 v2) i3 v3) i4 v4
-
-  pub four_length : length four ≡ length ws
-  four_length = simp length-set
 
   pub four_else : (k : ℕ) → (k ≡ i1 → ⊥) → (k ≡ i2 → ⊥) → (k ≡ i3 → ⊥) → (k ≡ i4 → ⊥) → get_or four k 0 ≡ get_or ws k 0
   four_else k a b c d =

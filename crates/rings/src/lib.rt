@@ -1,16 +1,19 @@
 // Rings in lent words: circular lists, linked both ways, with a head each.
 //
-// Holds the writers of rings (`unlink`, `link`, `shift`, `swap_out`, `scatter`), the reader `after`, and the laws that say what
-// each makes of the lists (specs/, proofs/). Node n has two words: at 2n the node after it, at 2n + 1 the node before it. Nodes
-// below a number of heads are heads; the others are slots, and a slot in no ring is linked to itself.
+// Holds the writers of rings (`unlink`, `link`, `shift`, `swap_out`, `scatter`), the readers `after` and `ring`, and the laws that
+// say what each makes of the lists (specs/, proofs/). Node n has two words: at 2n the node after it, at 2n + 1 the node before it.
+// Nodes below a number of heads are heads; the others are slots, and a slot in no ring is linked to itself. The links are numbers in
+// words, for a store has no memory but what it is lent.
 // Promises: each function writes and answers exactly what its definition says, on any words at all, and asks nothing of a
 // caller; where rings stand, each changes the lists as the laws say. Rests on nothing but the standard library.
 #![tactic(auto)]
 
 ghost use Rattle.std.specs.Prelude.{◌≡◌, ℕ, ◌+◌, ◌*◌, ◌<◌, ◌≤◌, List, length};
 ghost use Rattle.rings.specs.Laws.{RingLaws};
-ghost use Rattle.rings.specs.Rings.{cut_out, knotted, put_in, scattered, shifted, slot_after, swapped_out};
+ghost use Rattle.rings.specs.Left.{slots_left};
+ghost use Rattle.rings.specs.Rings.{cut_out, knotted, next, put_in, ring, scattered, shifted, slot_after, swapped_out};
 ghost use Rattle.rings.specs.Rings.{inside as lies_inside};
+ghost use Rattle.std.specs.Iterator.{YieldsFirst, item_count};
 
 // Whether both words of node n are there.
 fn inside(ws: &[u32], n: u32) -> bool
@@ -94,6 +97,52 @@ pub fn after(ws: &[u32], heads: u32, n: u32) -> Option<u32>
     if x < heads { None } else { Some(x) }
 }
 
+// The slots of a ring from one on, up to a head, and at most so many.
+#[derive(Drop)]
+pub struct Slots<'w> {
+    words: &'w [u32],
+    heads: u32,
+    left: u32,
+    at: u32,
+}
+
+impl Iterator for Slots<'_> {
+    type Item = u32;
+
+    ghost next_gives = { YieldsFirst slots_left };
+
+    ghost remaining = { item_count slots_left };
+
+    fn next(&mut self) -> Option<u32> {
+        if self.left == 0 || self.at < self.heads {
+            return None;
+        }
+        let x = self.at;
+        self.left -= 1;
+        self.at = next_in(self.words, x);
+        Some(x)
+    }
+}
+
+// The node after node n; 0 where its word is not there.
+fn next_in(ws: &[u32], n: u32) -> u32
+    ensures { result ≡ next ws.now n }
+{
+    ws.get(2 * n as usize).copied().unwrap_or(0)
+}
+
+// The slots of the ring of l, of so many nodes.
+pub fn ring(ws: &[u32], heads: u32, nodes: u32, l: u32) -> Slots<'_>
+    ensures { slots_left result ≡ ring heads nodes ws.now l }
+{
+    Slots {
+        words: ws,
+        heads,
+        left: nodes,
+        at: next_in(ws, l),
+    }
+}
+
 // Sets each of the first nodes alone. Where the words are too few for them, nothing is done.
 pub fn scatter(ws: &mut [u32], nodes: u32)
     ensures long { length ws.new ≡ length ws.old }
@@ -109,8 +158,6 @@ pub fn scatter(ws: &mut [u32], nodes: u32)
 }
 
 // What the writers make of the rings, as lists, and what the reader finds there.
-pub fn ring_laws() -> u8
+pub fn ring_laws()
     ensures { RingLaws }
-{
-    0
-}
+{}

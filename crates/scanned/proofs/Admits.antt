@@ -2,18 +2,18 @@
 use Rattle.std.proofs.Common.{◌≡◌, ℕ, ◌+◌, ◌-◌, ◌*◌, ◌<◌, ◌≤◌, Bool, true, not, ◌&&◌, eqb, ltb, List, [], ◌∷◌, ◌++◌, map, length, get_or, take, drop, sym, refl, ap, ◌∙◌, subst, inl, inr, arith}
 use Rattle.std.specs.List.{AllByRecursion}
 use Rattle.std.proofs.lemmas.Bool.{cases_lt, cases_eq, cond-true, lt-ltb}
-use Rattle.std.proofs.lemmas.List.{length_push, get_or_at, get_or_append_left}
+use Rattle.std.proofs.lemmas.List.{length_push}
 use Rattle.std.proofs.ByRecursion.{All-get_or, All-from_get_or, All-push}
 use Rattle.rings.specs.Rings.{next, prev, Held, Place, linked, unlinked, drop_at, at}
 use Rattle.rings.specs.Rings.{Lacks}
 use Rattle.rings.proofs.Drops.{at_here, at_else, drop_at_all, drop_at_length, drop_at_out}
 use Rattle.rings.proofs.Words.{alone_lacks, ring_differ}
-use Rattle.rings.proofs.Shifts.{slot_at, lacks_other, first_is, same_held, same_ring, moved_held, moved_ring, moved_drop, moved_still, moved_length}
+use Rattle.rings.proofs.Shifts.{slot_at, lacks_other, same_held, same_ring, moved_held, moved_ring, moved_drop, moved_still, moved_length}
 use Rattle.network.specs.Clauses.{last, has, well_formed}
 use Rattle.scanned.specs.Sums.{total, any_to}
 use Rattle.scanned.specs.Layout.{node_count, rg, text_at, text_of, was_of, own_of, seq_of, dead_of, passes, Whole, Wrote, Admitted, Loose}
-use Rattle.scanned.proofs.Wholes.{own_is, own_none, own_by}
-use Rattle.scanned.proofs.Totals.{total_same, total_at}
+use Rattle.scanned.proofs.Wholes.{own_by, own_changed, own_total}
+use Rattle.scanned.proofs.Totals.{total_at}
 use Rattle.rings.specs.Rings.{shifted}
 use Rattle.rings.proofs.Bounds.{shifted_is}
 use Rattle.rules.proofs.Formed.{Formed}
@@ -37,28 +37,7 @@ all_of_map : (P : ℕ → Type 0) (f : ℕ → ℕ) (xs : List ℕ) → AllByRec
 all_of_map P f [] h = tt
 all_of_map P f (x ∷ xs) h = (h.0, all_of_map P f xs h.1)
 
-module _ (room : ℕ) (ix : Bool) (ws : List ℕ) (w : Whole room ix ws) where
-  abbrev R : ℕ → List ℕ
-  R l = rg room ws l
-
-  -- the first free slot
-  pub free_first : (next ws 2048 ≡ 2048 → ⊥) → (0 < length (R 2048)) × (get_or (R 2048) 0 0 ≡ next ws 2048)
-  free_first n =
-      let e = first_is 2051 (node_count room) ws w.held 2048 (omega arith) in
-      elim (cases_lt 0 (length (R 2048))) [
-        | inl h ↦ (h, sym (e ∙ get_or_append_left (R 2048) (2048 ∷ []) 0 0 h))
-        | inr z ↦ absurd (n (e ∙ get_or_at (R 2048) 2048 [] 0 0 (omega arith)))
-      ]
-
-  pub free_none : next ws 2048 ≡ 2048 → length (R 2048) ≡ 0
-  free_none q =
-      let e = first_is 2051 (node_count room) ws w.held 2048 (omega arith) in
-      elim (cases_lt 0 (length (R 2048))) [
-        | inl h ↦ let a = (slot_at 2051 (node_count room) ws w.held 2048 0 (omega arith) h).0 in let b = get_or_append_left (R 2048) (2048 ∷ []) 0 0 h in absurd (omega arith)
-        | inr z ↦ omega arith
-      ]
-
-module _ (room : ℕ) (ix : Bool) (ws vs : List ℕ) (w : Whole room ix ws) (some : 0 < room) (x : ℕ) (c : List ℕ) (is : next ws 2048 ≡ x) (not-head : next ws 2048 ≡ 2048 → ⊥) (good : well_formed c ≡ true) (wl : Formed c) (wr : Wrote ws vs (text_at room x) c) where
+module _ (room : ℕ) (ix : Bool) (ws vs : List ℕ) (w : Whole room ix ws) (some : 0 < room) (x : ℕ) (c : List ℕ) (place : (0 < length (rg room ws 2048)) × (get_or (rg room ws 2048) 0 0 ≡ x)) (good : well_formed c ≡ true) (wl : Formed c) (wr : Wrote ws vs (text_at room x) c) where
   abbrev Q : ℕ → List ℕ
   Q l = rg room ws l
 
@@ -67,9 +46,6 @@ module _ (room : ℕ) (ix : Bool) (ws vs : List ℕ) (w : Whole room ix ws) (som
 
   abbrev N : ℕ
   N = node_count room
-
-  place : (0 < length (Q 2048)) × (get_or (Q 2048) 0 0 ≡ x)
-  place = let p = free_first room ix ws w not-head in (p.0, p.1 ∙ is)
 
   x_slot : (2051 ≤ x) × (x < 2051 + room)
   x_slot =
@@ -255,13 +231,7 @@ module _ (room : ℕ) (ix : Bool) (ws vs : List ℕ) (w : Whole room ix ws) (som
         slot = x_slot;
         fresh = own_by (λ l xs. Lacks x xs) room ws (λ l. tt) (λ r l h. subst (λ (y : ℕ). Lacks y (Q l)) place.1 (lacks_other 2051 N ws w.held 2048 0 l (omega arith) (omega arith) place.0 (λ q. omega arith)));
         unused = subst (Lacks x) (sym (seq_is room ws some)) (all_of_map (λ y. y ≡ x → ⊥) (λ n. n - room) (Q 2050) (each_seq (λ y. Unit {0}) (λ y. y ≡ x → ⊥) (λ y a b n p. n) (All-from_get_or (λ n. Unit {0}) (Q 2050) 0 (λ i k. tt))));
-        owns = λ l. elim (cases_lt l 2048) [
-          | inr ge ↦ own_none room us l ge ∙ sym (own_none room ws l ge) ∙ sym (at_else (own_of room ws) l0 (own_of room ws l0 ++ (x ∷ [])) l (λ q. omega arith))
-          | inl lt ↦ elim (cases_eq l l0) [
-            | inl e ↦ own_is room us l some lt ∙ ring_own l e ∙ ap (λ (ys : List ℕ). ys ++ (x ∷ [])) (sym (own_is room ws l0 some ll)) ∙ sym (at_here (own_of room ws) l0 (own_of room ws l0 ++ (x ∷ [])) l e)
-            | inr n ↦ own_is room us l some lt ∙ ring_else l (omega arith) n (λ q. omega arith) ∙ sym (own_is room ws l some lt) ∙ sym (at_else (own_of room ws) l0 (own_of room ws l0 ++ (x ∷ [])) l n)
-          ]
-        ];
+        owns = own_changed room ws some us l0 (λ ys. ys ++ (x ∷ [])) ll (ring_own l0 refl) (λ l h n. ring_else l (omega arith) n (λ q. omega arith));
         seqs = seq_is room us some ∙ ap (map (λ n. n - room)) (ring_else 2050 (omega arith) (λ q. omega arith) (λ q. omega arith)) ∙ sym (seq_is room ws some);
         deads = dead_is room us some ∙ ap length (ring_else 2049 (omega arith) (λ q. omega arith) (λ q. omega arith)) ∙ sym (dead_is room ws some);
         here = text_here;
@@ -273,8 +243,8 @@ module _ (room : ℕ) (ix : Bool) (ws vs : List ℕ) (w : Whole room ix ws) (som
 
   pub admit_live : total 2048 (λ l. length (own_of room us l)) ≡ total 2048 (λ l. length (own_of room ws l)) + 1
   admit_live =
-      let a = total_same 2048 (λ l. length (own_of room us l)) (λ l. length (rg room us l)) (λ l h. ap length (own_is room us l some h)) in
-      let b = total_same 2048 (λ l. length (own_of room ws l)) (λ l. length (Q l)) (λ l h. ap length (own_is room ws l some h)) in
+      let a = own_total room us some in
+      let b = own_total room ws some in
       let t = admit_total in
       omega arith
 
@@ -287,9 +257,8 @@ module _ (room : ℕ) (ix : Bool) (ws vs : List ℕ) (w : Whole room ix ws) (som
   }
 
 -- the slot that a clause will get
-pub admit_slot : (room : ℕ) (ix : Bool) (ws : List ℕ) → Whole room ix ws → (next ws 2048 ≡ 2048 → ⊥) → (2051 ≤ next ws 2048) × (next ws 2048 < 2051 + room) × (text_at room (next ws 2048) + 34 ≤ length ws)
-admit_slot room ix ws w n =
-    let p = free_first room ix ws w n in
+pub admit_slot : (room : ℕ) (ix : Bool) (ws : List ℕ) → Whole room ix ws → (x : ℕ) → (0 < length (rg room ws 2048)) × (get_or (rg room ws 2048) 0 0 ≡ x) → (2051 ≤ x) × (x < 2051 + room) × (text_at room x + 34 ≤ length ws)
+admit_slot room ix ws w x p =
     let a = (slot_at 2051 (node_count room) ws w.held 2048 0 (omega arith) p.0).0 in
     let b = All-get_or (λ y. y < 2051 + room) (rg room ws 2048) 0 0 p.0 (w.low 2048 (omega arith)) in
     let e = p.1 in

@@ -1,27 +1,24 @@
 -- The meaning after a clause was entered. Assumes nothing.
-use Rattle.std.proofs.Common.{◌≡◌, ℕ, zero, suc, ◌+◌, ◌<◌, ◌≤◌, Bool, true, false, cond, not, ◌&&◌, ◌||◌, eqb, ltb, List, [], ◌∷◌, ◌++◌, length, get_or, filter, sym, refl, ap, ◌∙◌, subst, inl, inr, arith}
+use Rattle.std.proofs.Common.{◌≡◌, ℕ, zero, suc, ◌+◌, ◌<◌, ◌≤◌, Bool, true, false, cond, not, ◌&&◌, ◌||◌, eqb, ltb, List, [], ◌∷◌, ◌++◌, length, get_or, filter, sym, refl, ap, ◌∙◌, inl, inr, arith}
 use Rattle.std.specs.List.{AllByRecursion}
 use Rattle.std.proofs.lemmas.Bool.{cases_eq, cases_Bool, cond-true, cond-false, lt-ltb, le-ltb, and_from, and_right, eq-eqb, ne_eqb, or_left, or_right}
 use Rattle.std.proofs.lemmas.Bool.Decides.{nat_tests}
 use Rattle.std.proofs.lemmas.List.Elements.{filter-append}
 use Rattle.std.proofs.ByRecursion.{all_kept_by, All-weaker}
 use Rattle.std.proofs.lemmas.List.{append-nil}
-use Rattle.rings.specs.Rings.{next}
 use Rattle.rings.specs.Rings.{Lacks}
 use Rattle.network.specs.Clauses.{last, front, has, well_formed}
 use Rattle.rules.specs.Store.{entered, enterable, kept_clauses}
 use Rattle.scanned.specs.Sums.{total, any_to}
 use Rattle.slots.specs.Slots.{meant}
 use Rattle.slots.proofs.Slots.{entered_is}
-use Rattle.scanned.specs.Layout.{rg, text_of, was_of, own_of, seq_of, used_of, dead_of, meaning_of, passes, Whole, Sound, Admitted, Joined, Law}
-use Rattle.scanned.proofs.Wholes.{own_is}
-use Rattle.rules.specs.Lawful.{Lawful}
-use Rattle.scanned.proofs.Laws.{to_law}
+use Rattle.scanned.specs.Layout.{rg, text_of, was_of, own_of, seq_of, used_of, dead_of, meaning_of, passes, Whole, Admitted, Joined}
+use Rattle.scanned.proofs.Wholes.{own_total}
 use Rattle.scanned.proofs.Totals.{total_same}
 use Rattle.network.specs.Assignments.{node}
 use Rattle.network.specs.Clauses.{Ordered}
 use Rattle.rules.proofs.Formed.{Formed, formed_parts, front_below}
-use Rattle.scanned.proofs.Admits.{dead_is, free_first, free_none}
+use Rattle.scanned.proofs.Admits.{dead_is}
 use Rattle.scanned.proofs.Asks.{live_is}
 
 -- the literals but the last
@@ -108,41 +105,24 @@ module _ (room : ℕ) (ix : Bool) (ws vs : List ℕ) (x : ℕ) (c : List ℕ) (a
 pub kept_is_all : (room : ℕ) (ix : Bool) (ws : List ℕ) → 0 < room → Whole room ix ws → kept_clauses (meaning_of room ix ws) + length (rg room ws 2048) ≡ room
 kept_is_all room ix ws r w =
     let a = live_is room ix ws in
-    let b = total_same 2048 (λ l. length (own_of room ws l)) (λ l. length (rg room ws l)) (λ l h. ap length (own_is room ws l r h)) in
+    let b = own_total room ws r in
     let d = dead_is room ws r in
     let z = w.sized in
     omega arith
 
-pub enter_full : (room : ℕ) (ix : Bool) (ws c : List ℕ) → 0 < room → Whole room ix ws → next ws 2048 ≡ 2048 → enterable (meaning_of room ix ws) c ≡ false
+pub enter_full : (room : ℕ) (ix : Bool) (ws c : List ℕ) → 0 < room → Whole room ix ws → rg room ws 2048 ≡ [] → enterable (meaning_of room ix ws) c ≡ false
 enter_full room ix ws c r w e =
     let a = kept_is_all room ix ws r w in
-    let z = free_none room ix ws w e in
+    let z = ap length e in
     and_right (well_formed c) (ltb (kept_clauses (meaning_of room ix ws)) room) (le-ltb (kept_clauses (meaning_of room ix ws)) room (omega arith))
 
-pub enter_bare : (room : ℕ) (ix : Bool) (ws c : List ℕ) → room ≡ 0 → enterable (meaning_of room ix ws) c ≡ false
-enter_bare room ix ws c e = and_right (well_formed c) (ltb (kept_clauses (meaning_of room ix ws)) room) (le-ltb (kept_clauses (meaning_of room ix ws)) room (omega arith))
-
-pub enter_fits : (room : ℕ) (ix : Bool) (ws c : List ℕ) → 0 < room → Whole room ix ws → (next ws 2048 ≡ 2048 → ⊥) → well_formed c ≡ true → enterable (meaning_of room ix ws) c ≡ true
-enter_fits room ix ws c r w n g =
+pub enter_fits : (room : ℕ) (ix : Bool) (ws c : List ℕ) → 0 < room → Whole room ix ws → 0 < length (rg room ws 2048) → well_formed c ≡ true → enterable (meaning_of room ix ws) c ≡ true
+enter_fits room ix ws c r w z g =
     let a = kept_is_all room ix ws r w in
-    let z = (free_first room ix ws w n).0 in
     and_from (well_formed c) (ltb (kept_clauses (meaning_of room ix ws)) room) g (lt-ltb (kept_clauses (meaning_of room ix ws)) room (omega arith))
 
 pub live_few : (room : ℕ) (ix : Bool) (ws : List ℕ) (n : ℕ) → 0 < room → Whole room ix ws → n ≡ total 2048 (λ l. length (own_of room ws l)) → n ≤ room
 live_few room ix ws n r w e = let a = live_is room ix ws in let b = kept_is_all room ix ws r w in omega arith
-
-pub same_fields : (room room' : ℕ) (ix ix' : Bool) (vs : List ℕ) → room' ≡ room → ix' ≡ ix → meaning_of room' ix' vs ≡ meaning_of room ix vs
-same_fields room room' ix ix' vs e f = ap (λ (r : ℕ). meaning_of r ix' vs) e ∙ ap (λ (b : Bool). meaning_of room b vs) f
-
--- the facts of the struct, where its other fields are known by equations
-pub ghosts : (room room' : ℕ) (ix ix' : Bool) (vs : List ℕ) (n : ℕ) → room < 4097 → room' ≡ room → ix' ≡ ix → n ≡ total 2048 (λ l. length (own_of room vs l)) → Whole room ix vs → Lawful (meaning_of room ix vs) → record { small : room' < 4097; alive : n ≡ total 2048 (λ l. length (own_of room' vs l)); whole : ∥ Sound room' ix' vs ∥₁; law : ∥ Law (meaning_of room' ix' vs) ∥₁ }
-ghosts room room' ix ix' vs n small e f l w L =
-    record {
-      small = omega arith;
-      alive = subst (λ (r : ℕ). n ≡ total 2048 (λ l. length (own_of r vs l))) (sym e) l;
-      whole = ∣ (λ _. subst (λ (r : ℕ). Whole r ix' vs) (sym e) (subst (λ (b : Bool). Whole room b vs) (sym f) w)) ∣₁;
-      law = to_law (meaning_of room' ix' vs) (subst Lawful (sym (same_fields room room' ix ix' vs e f)) L);
-    }
 
 -- a clause of one literal has no front
 pub front_one : (k : ℕ) (c : List ℕ) → length c ≡ 1 → has k (front c) ≡ false

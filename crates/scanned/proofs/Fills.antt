@@ -1,5 +1,5 @@
 -- The words of a new store. Assumes nothing.
-use Rattle.std.proofs.Common.{◌≡◌, ℕ, ◌+◌, ◌-◌, ◌*◌, ◌<◌, ◌≤◌, true, false, not, ◌&&◌, eqb, ltb, List, [], ◌∷◌, ◌++◌, map, length, get_or, filter, sym, refl, ap, ◌∙◌, subst, inl, inr, arith}
+use Rattle.std.proofs.Common.{◌≡◌, ℕ, ◌+◌, ◌-◌, ◌*◌, ◌<◌, ◌≤◌, Bool, true, false, not, ◌&&◌, eqb, leb, ltb, List, [], ◌∷◌, ◌++◌, map, length, get_or, filter, sym, refl, ap, ◌∙◌, subst, inl, inr, arith}
 use Rattle.std.specs.List.{AllByRecursion}
 use Rattle.std.proofs.lemmas.Bool.{cond-true, cond-false, lt-ltb, le-ltb, cases_lt, cases_eq}
 use Rattle.std.proofs.lemmas.List.{length_push}
@@ -16,6 +16,10 @@ use Rattle.scanned.specs.Sums.{blank}
 use Rattle.slots.specs.Slots.{ref}
 use Rattle.slots.proofs.Slots.{same_meaning}
 use Rattle.scanned.specs.Layout.{node_count, rg, text_at, text_of, was_of, own_of, seq_of, used_of, dead_of, meaning_of, Whole, Filled, fitting}
+use Rattle.image.specs.declared.fault.Fault.{Fault}
+use Rattle.image.specs.Faults.{fault, tested, ◌then◌}
+use Rattle.store.specs.Checks.{checked, fair_room, need_of}
+use Rattle.std.specs.Result.{is_ok}
 use Rattle.scanned.proofs.Totals.{total_none}
 use Rattle.scanned.proofs.Wholes.{own_bare, own_by}
 
@@ -93,11 +97,17 @@ filled_scattered room ws vs long e =
 pub filled_put : (room : ℕ) (ws vs : List ℕ) (i : ℕ) → i < room → Filled room ws i → vs ≡ put_in ws 2048 (2051 + i) → Filled room vs (i + 1)
 filled_put room ws vs i h f e = filled_more room ws vs i h f (e ∙ put_is 2051 (node_count room) ws f.held 2048 (2051 + i) (omega arith) (omega arith))
 
-pub bare_live : (ws : List ℕ) → ◌≡◌ {A = ℕ} 0 (total 2048 (λ l. length (own_of 0 ws l)))
-bare_live ws = sym (total_none 2048 (λ l. length (own_of 0 ws l)) (λ l h. ap length (own_bare 0 ws l (omega arith))))
-
 pub filled_live : (room : ℕ) (ws : List ℕ) → Filled room ws room → ◌≡◌ {A = ℕ} 0 (total 2048 (λ l. length (own_of room ws l)))
 filled_live room ws f = sym (total_none 2048 (λ l. length (own_of room ws l)) (λ l h. ap length (filled_own room ws f l)))
+
+-- the check of a store passes where it fits
+both : (a b : Bool) (e f : Fault) → is_ok (tested a e then (λ _. tested b f)) ≡ (a && b)
+both false b e f = refl
+both true false e f = refl
+both true true e f = refl
+
+pub checks : (room len : ℕ) → is_ok (checked 48 4096 room len) ≡ fitting room len
+checks room len = both (fair_room room) (leb (need_of 48 4096 room) len) (fault 9 room) (fault 10 (need_of 48 4096 room))
 
 pub fitting_means : (room len : ℕ) → fitting room len ≡ true → (2 ≤ room) × (room < 4097) × (48 * room + 4096 ≤ len)
 fitting_means room len e = (grind (arith, nat_tests), grind (arith, nat_tests), grind (arith, nat_tests))

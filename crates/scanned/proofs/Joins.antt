@@ -1,7 +1,8 @@
 -- A slot more in the sequence. Assumes nothing.
-use Rattle.std.proofs.Common.{◌≡◌, ℕ, ◌+◌, ◌-◌, ◌*◌, ◌<◌, ◌≤◌, Bool, true, List, [], ◌∷◌, ◌++◌, map, length, get_or, take, drop, sym, refl, ap, ◌∙◌, subst, inl, inr, arith}
+use Rattle.std.proofs.Common.{◌≡◌, ℕ, ◌+◌, ◌-◌, ◌*◌, ◌<◌, ◌≤◌, Bool, true, not, ◌&&◌, eqb, List, [], ◌∷◌, ◌++◌, map, length, get_or, take, drop, sym, refl, ap, ◌∙◌, subst, arith}
+use mathlib.Core.Path.{fun_ext}
 use Rattle.std.specs.List.{AllByRecursion}
-use Rattle.std.proofs.lemmas.Bool.{cases_lt, both_ways}
+use Rattle.std.proofs.lemmas.Bool.{both_ways}
 use Rattle.std.proofs.lemmas.List.{map_push}
 use Rattle.std.proofs.ByRecursion.{All-get_or, All-from_get_or, All-push, All-weaker}
 use Rattle.rings.specs.Rings.{next, Held, linked, at}
@@ -11,10 +12,10 @@ use Rattle.rings.proofs.Words.{linked_length}
 use Rattle.rings.proofs.Shifts.{slot_at, push_held, push_ring, push_drop, push_still}
 use Rattle.rings.specs.Rings.{put_in}
 use Rattle.rings.proofs.Bounds.{put_is}
-use Rattle.network.specs.Clauses.{last, well_formed}
+use Rattle.network.specs.Clauses.{last, has, well_formed}
 use Rattle.scanned.specs.Sums.{any_to}
 use Rattle.scanned.specs.Layout.{node_count, rg, text_at, text_of, was_of, passes, Whole, Joined, Loose}
-use Rattle.scanned.proofs.Wholes.{own_is, own_none}
+use Rattle.scanned.proofs.Wholes.{own_same}
 use Rattle.scanned.proofs.Totals.{total_same}
 use Rattle.scanned.proofs.Frames.{from_drop, drop_more}
 use Rattle.scanned.proofs.Admits.{seq_is, dead_is, passes_same}
@@ -26,6 +27,22 @@ all_append_left P (x ∷ xs) ys h = (h.0, all_append_left P xs ys h.1)
 all_append_right : (P : ℕ → Type 0) (xs ys : List ℕ) → AllByRecursion P (xs ++ ys) → AllByRecursion P ys
 all_append_right P [] ys h = h
 all_append_right P (x ∷ xs) ys h = all_append_right P xs ys h.1
+
+-- what is said of the clause in a slot
+abbrev pub Short : ℕ → List ℕ → ℕ → Type 0
+Short room ws y = get_or ws (text_at room y) 0 < 33
+
+abbrev pub Well : ℕ → List ℕ → ℕ → Type 0
+Well room ws y = well_formed (text_of room ws y) ≡ true
+
+abbrev pub Ends : ℕ → List ℕ → ℕ → ℕ → Type 0
+Ends room ws m y = last (text_of room ws y) ≡ m
+
+abbrev pub Spanned : ℕ → List ℕ → ℕ → Type 0
+Spanned room ws y = (get_or ws (text_at room y) 0 < 33) × (get_or ws (text_at room y + 1) 0 < 33)
+
+abbrev pub InUse : ℕ → List ℕ → ℕ → Type 0
+InUse room ws y = any_to 2048 (λ k. passes room ws k y) ≡ true
 
 -- the same words past the links are the same clauses
 module _ (room : ℕ) (ws vs : List ℕ) (e : drop (2 * node_count room) vs ≡ drop (2 * node_count room) ws) where
@@ -43,6 +60,31 @@ module _ (room : ℕ) (ws vs : List ℕ) (e : drop (2 * node_count room) vs ≡ 
 
   pub size_past : (k : ℕ) → 2 * node_count room ≤ k → get_or vs k 0 ≡ get_or ws k 0
   size_past k h = from_drop (2 * node_count room) ws vs k e h
+
+  pub used_past : (y : ℕ) → any_to 2048 (λ k. passes room vs k y) ≡ any_to 2048 (λ k. passes room ws k y)
+  used_past y = passes_same room ws vs y (text_past y) (was_past y)
+
+  pub passes_past : (k : ℕ) → passes room vs k ≡ passes room ws k
+  passes_past k = fun_ext (λ y. ap (λ (d : List ℕ). has k d && not (eqb k (last (text_of room vs y)))) (was_past y) ∙ ap (λ (d : List ℕ). has k (was_of room ws y) && not (eqb k (last d))) (text_past y))
+
+  pub span_past : (y : ℕ) → Spanned room ws y → Spanned room vs y
+  span_past y q = let a = size_past (text_at room y) (omega arith) in let b = size_past (text_at room y + 1) (omega arith) in let q0 = q.0 in let q1 = q.1 in (omega arith, omega arith)
+
+  -- what the clauses of an own list keep, and those of the sequence
+  pub sizes_past : (xs : List ℕ) → AllByRecursion (Short room ws) xs → AllByRecursion (Short room vs) xs
+  sizes_past = All-weaker (Short room ws) (Short room vs) (λ y q. let a = size_past (text_at room y) (omega arith) in omega arith)
+
+  pub wells_past : (xs : List ℕ) → AllByRecursion (Well room ws) xs → AllByRecursion (Well room vs) xs
+  wells_past = All-weaker (Well room ws) (Well room vs) (λ y q. ap well_formed (text_past y) ∙ q)
+
+  pub ends_past : (m : ℕ) (xs : List ℕ) → AllByRecursion (Ends room ws m) xs → AllByRecursion (Ends room vs m) xs
+  ends_past m = All-weaker (Ends room ws m) (Ends room vs m) (λ y q. ap last (text_past y) ∙ q)
+
+  pub spans_past : (ns : List ℕ) → AllByRecursion (λ n. Spanned room ws (n - room)) ns → AllByRecursion (λ n. Spanned room vs (n - room)) ns
+  spans_past = All-weaker (λ n. Spanned room ws (n - room)) (λ n. Spanned room vs (n - room)) (λ n. span_past (n - room))
+
+  pub useds_past : (ns : List ℕ) → AllByRecursion (λ n. InUse room ws (n - room)) ns → AllByRecursion (λ n. InUse room vs (n - room)) ns
+  useds_past = All-weaker (λ n. InUse room ws (n - room)) (λ n. InUse room vs (n - room)) (λ n q. used_past (n - room) ∙ q)
 
 module _ (room : ℕ) (ix : Bool) (ws : List ℕ) (w : Whole room ix ws) (some : 0 < room) (x : ℕ) (lo : Loose room ws x) (on : ix ≡ true) (uses : any_to 2048 (λ k. passes room ws k x) ≡ true) where
   abbrev N : ℕ
@@ -90,10 +132,10 @@ module _ (room : ℕ) (ix : Bool) (ws : List ℕ) (w : Whole room ix ws) (some :
     held = held1;
     low = λ l h. subst (AllByRecursion (λ y. y < 2051 + room)) (sym (else1 l h)) (w.low l h);
     high = subst (AllByRecursion (λ m. 2051 + room ≤ m)) (sym seq1) (All-push (λ m. 2051 + room ≤ m) (Q 2050) n w.high (let a = lo.slot.0 in omega arith));
-    sizes = λ l h. subst (AllByRecursion (λ y. get_or vs (text_at room y) 0 < 33)) (sym (else1 l (omega arith))) (All-weaker (λ y. get_or ws (text_at room y) 0 < 33) (λ y. get_or vs (text_at room y) 0 < 33) (λ y q. let e = size_past room ws vs dropped (text_at room y) (omega arith) in omega arith) (Q l) (w.sizes l h));
-    wells = λ l h. subst (AllByRecursion (λ y. well_formed (text_of room vs y) ≡ true)) (sym (else1 l (omega arith))) (All-weaker (λ y. well_formed (text_of room ws y) ≡ true) (λ y. well_formed (text_of room vs y) ≡ true) (λ y q. ap well_formed (text_past room ws vs dropped y) ∙ q) (Q l) (w.wells l h));
-    ends = λ l h. subst (AllByRecursion (λ y. last (text_of room vs y) ≡ l)) (sym (else1 l (omega arith))) (All-weaker (λ y. last (text_of room ws y) ≡ l) (λ y. last (text_of room vs y) ≡ l) (λ y q. ap last (text_past room ws vs dropped y) ∙ q) (Q l) (w.ends l h));
-    spans = subst (AllByRecursion (λ m. (get_or vs (text_at room (m - room)) 0 < 33) × (get_or vs (text_at room (m - room) + 1) 0 < 33))) (sym seq1) (All-push (λ m. (get_or vs (text_at room (m - room)) 0 < 33) × (get_or vs (text_at room (m - room) + 1) 0 < 33)) (Q 2050) n (All-weaker (λ m. (get_or ws (text_at room (m - room)) 0 < 33) × (get_or ws (text_at room (m - room) + 1) 0 < 33)) (λ m. (get_or vs (text_at room (m - room)) 0 < 33) × (get_or vs (text_at room (m - room) + 1) 0 < 33)) (λ m q. span (m - room) q) (Q 2050) w.spans) (subst (λ (y : ℕ). (get_or vs (text_at room y) 0 < 33) × (get_or vs (text_at room y + 1) 0 < 33)) here (span x lo.sizes)));
+    sizes = λ l h. subst (AllByRecursion (Short room vs)) (sym (else1 l (omega arith))) (sizes_past room ws vs dropped (Q l) (w.sizes l h));
+    wells = λ l h. subst (AllByRecursion (Well room vs)) (sym (else1 l (omega arith))) (wells_past room ws vs dropped (Q l) (w.wells l h));
+    ends = λ l h. subst (AllByRecursion (Ends room vs l)) (sym (else1 l (omega arith))) (ends_past room ws vs dropped l (Q l) (w.ends l h));
+    spans = subst (AllByRecursion (λ m. Spanned room vs (m - room))) (sym seq1) (All-push (λ m. Spanned room vs (m - room)) (Q 2050) n (spans_past room ws vs dropped (Q 2050) w.spans) (subst (Spanned room vs) here (span_past room ws vs dropped x lo.sizes)));
     sized = let t = total_same 2048 (λ l. length (rg room vs l)) (λ l. length (Q l)) (λ l h. ap length (else1 l (omega arith))) in let a = ap length (else1 2048 (omega arith)) in let b = ap length (else1 2049 (omega arith)) in let z = w.sized in omega arith;
     loose = subst (AllByRecursion (λ y. next vs (y + room) ≡ y + room)) (sym (else1 2048 (omega arith))) (All-from_get_or (λ y. next vs (y + room) ≡ y + room) (Q 2048) 0 (λ i k.
         let a = (slot_at 2051 N ws w.held 2048 i (omega arith) k).0 in
@@ -104,19 +146,16 @@ module _ (room : ℕ) (ix : Bool) (ws : List ℕ) (w : Whole room ix ws) (some :
         let p = all_append_left (λ y. y ≡ m → ⊥) (Q 2050) (n ∷ []) lk2 in
         let q = (all_append_right (λ y. y ≡ m → ⊥) (Q 2050) (n ∷ []) lk2).0 in
         stays m (omega arith) h (λ e. q (sym e)) (w.joins m g h p);
-    used = subst (AllByRecursion (λ m. any_to 2048 (λ k. passes room vs k (m - room)) ≡ true)) (sym seq1) (All-push (λ m. any_to 2048 (λ k. passes room vs k (m - room)) ≡ true) (Q 2050) n (All-weaker (λ m. any_to 2048 (λ k. passes room ws k (m - room)) ≡ true) (λ m. any_to 2048 (λ k. passes room vs k (m - room)) ≡ true) (λ m q. passes_same room ws vs (m - room) (text_past room ws vs dropped (m - room)) (was_past room ws vs dropped (m - room)) ∙ q) (Q 2050) w.used) (ap (λ (y : ℕ). any_to 2048 (λ k. passes room vs k y)) (sym here) ∙ passes_same room ws vs x (text_past room ws vs dropped x) (was_past room ws vs dropped x) ∙ uses));
+    used = subst (AllByRecursion (λ m. InUse room vs (m - room))) (sym seq1) (All-push (λ m. InUse room vs (m - room)) (Q 2050) n (useds_past room ws vs dropped (Q 2050) w.used) (subst (InUse room vs) here (used_past room ws vs dropped x ∙ uses)));
     off = λ e. absurd (both_ways ix e on);
   }
     where
-      span : (y : ℕ) → (get_or ws (text_at room y) 0 < 33) × (get_or ws (text_at room y + 1) 0 < 33) → (get_or vs (text_at room y) 0 < 33) × (get_or vs (text_at room y + 1) 0 < 33)
-      span y q = let e = size_past room ws vs dropped (text_at room y) (omega arith) in let f = size_past room ws vs dropped (text_at room y + 1) (omega arith) in let q0 = q.0 in let q1 = q.1 in (omega arith, omega arith)
-
       here : x ≡ n - room
       here = omega arith
 
   pub join_is : Joined room ws vs x
   join_is = record {
-    owns = λ l. elim (cases_lt l 2048) [ inl h ↦ own_is room vs l some h ∙ else1 l (omega arith) ∙ sym (own_is room ws l some h) | inr g ↦ own_none room vs l g ∙ sym (own_none room ws l g) ];
+    owns = own_same room ws some vs (λ l h. else1 l (omega arith));
     seqs = seq_is room vs some ∙ ap (map (λ m. m - room)) seq1 ∙ map_push (λ m. m - room) (Q 2050) n ∙ (let e : n - room ≡ x = omega arith in let f = seq_is room ws some in cc);
     deads = dead_is room vs some ∙ ap length (else1 2049 (omega arith)) ∙ sym (dead_is room ws some);
     texts = text_past room ws vs dropped;

@@ -11,3 +11,5 @@ pub mod Removes
 pub mod Retires
 pub mod Offs
 pub mod Places
+pub mod Stores
+pub mod Changes

@@ -1,30 +1,27 @@
 -- The index dropped. Assumes nothing.
-use Rattle.std.proofs.Common.{◌≡◌, ℕ, ◌+◌, ◌-◌, ◌*◌, ◌<◌, ◌≤◌, Bool, true, false, not, ◌&&◌, eqb, ltb, List, [], ◌∷◌, ◌++◌, map, length, get_or, drop, Some, None, filter, Option, sym, refl, ap, ◌∙◌, subst, inl, inr, arith, length-set}
+use Rattle.std.proofs.Common.{◌≡◌, ℕ, ◌+◌, ◌-◌, ◌*◌, ◌<◌, ◌≤◌, Bool, true, false, not, ◌&&◌, eqb, ltb, List, [], ◌∷◌, ◌++◌, map, length, get_or, drop, filter, sym, refl, ap, ◌∙◌, subst, inl, inr, arith, length-set}
 use mathlib.Core.Path.{fun_ext}
 use Rattle.std.specs.List.{AllByRecursion}
-use Rattle.std.proofs.lemmas.Bool.{cases_lt, cases_eq, cond-true, cond-false, lt-ltb, le-ltb, both_ways}
-use Rattle.std.proofs.lemmas.List.{length_push, nil_from_length}
+use Rattle.std.proofs.lemmas.Bool.{cases_lt, cases_eq, cond-false, le-ltb, both_ways}
+use Rattle.std.proofs.lemmas.List.{length_push}
 use Rattle.std.proofs.ByRecursion.{All-get_or, All-from_get_or, All-push, All-weaker}
-use Rattle.rings.specs.Rings.{Lacks, next, linked, unlinked, drop_at, at, without, cut_out, shifted, slot_after}
+use Rattle.rings.specs.Rings.{Lacks, next, linked, unlinked, drop_at, at, without, cut_out, shifted}
 use Rattle.rings.proofs.Holes.{without_all, without_lacks}
 use Rattle.rings.proofs.Drops.{at_here, at_else, drop_at_all, drop_at_length, without_at}
 use Rattle.rings.proofs.Words.{ring_differ}
 use Rattle.rings.proofs.Shifts.{slot_at, Cuts, cuts, moved_held, moved_ring, moved_drop, moved_still, moved_length}
-use Rattle.rings.proofs.Bounds.{cut_is, shifted_is, after_head}
-use Rattle.network.specs.Clauses.{last, has, well_formed}
+use Rattle.rings.proofs.Bounds.{cut_is, shifted_is}
+use Rattle.network.specs.Clauses.{last, has}
 use Rattle.rules.specs.Store.{index_off}
 use Rattle.slots.specs.Slots.{ref}
 use Rattle.slots.proofs.Slots.{same_meaning}
-use Rattle.scanned.specs.Sums.{total, any_to}
-use Rattle.scanned.specs.Layout.{node_count, rg, text_at, text_of, was_of, own_of, seq_of, used_of, dead_of, meaning_of, passes, Whole, Kin}
-use Rattle.scanned.proofs.Wholes.{own_is, own_none}
+use Rattle.scanned.specs.Sums.{total}
+use Rattle.scanned.specs.Layout.{node_count, rg, text_of, was_of, own_of, seq_of, used_of, dead_of, meaning_of, Whole, Kin}
+use Rattle.scanned.proofs.Wholes.{own_same}
 use Rattle.scanned.proofs.Totals.{total_same}
-use Rattle.scanned.proofs.Admits.{seq_is, dead_is, passes_same}
-use Rattle.scanned.proofs.Joins.{text_past, was_past, size_past}
+use Rattle.scanned.proofs.Admits.{seq_is, dead_is}
+use Rattle.scanned.proofs.Joins.{Short, Well, Ends, Spanned, InUse, text_past, sizes_past, wells_past, ends_past, spans_past, useds_past}
 use Rattle.scanned.proofs.Removes.{lacks_without}
-
-pub kin_same : (room : ℕ) (ws : List ℕ) → Kin room ws ws
-kin_same room ws = record { long = refl; owns = λ l h. refl; past = refl }
 
 pub kin_then : (room : ℕ) (ws vs us : List ℕ) → Kin room ws vs → Kin room vs us → Kin room ws us
 kin_then room ws vs us a b = record { long = b.long ∙ a.long; owns = λ l h. b.owns l h ∙ a.owns l h; past = b.past ∙ a.past }
@@ -36,35 +33,6 @@ lifted room ix ws w = record { long = w.long; held = w.held; low = w.low; high =
 -- and as if none does
 pub lowered : (room : ℕ) (ws : List ℕ) → Whole room true ws → rg room ws 2049 ≡ [] → rg room ws 2050 ≡ [] → Whole room false ws
 lowered room ws w a b = record { long = w.long; held = w.held; low = w.low; high = w.high; sizes = w.sizes; wells = w.wells; ends = w.ends; spans = w.spans; sized = w.sized; loose = w.loose; joins = w.joins; used = w.used; off = λ e. (a, b) }
-
--- the reader finds the first of a ring, or that it has none
-abbrev IsNone : Option ℕ → Type 0
-IsNone None = Unit {0}
-IsNone (Some x) = ⊥
-
-abbrev IsSome : Option ℕ → Type 0
-IsSome None = ⊥
-IsSome (Some x) = Unit {0}
-
-abbrev what : Option ℕ → ℕ
-what None = 0
-what (Some x) = x
-
-pub reads_none : (room : ℕ) (ws : List ℕ) → Whole room true ws → (l : ℕ) → l < 2051 → None ≡ slot_after 2051 ws l → rg room ws l ≡ []
-reads_none room ws w l h e =
-    let q = e ∙ after_head 2051 (node_count room) ws w.held l h in
-    elim (cases_lt 0 (length (rg room ws l))) [
-      | inl lt ↦ absurd (subst IsNone (q ∙ cond-true (ltb 0 (length (rg room ws l))) (Some (get_or (rg room ws l) 0 0)) None (lt-ltb 0 (length (rg room ws l)) lt)) tt)
-      | inr ge ↦ nil_from_length (rg room ws l) (omega arith)
-    ]
-
-pub reads_some : (room : ℕ) (ws : List ℕ) → Whole room true ws → (l : ℕ) → l < 2051 → (x : ℕ) → Some x ≡ slot_after 2051 ws l → (0 < length (rg room ws l)) × (get_or (rg room ws l) 0 0 ≡ x)
-reads_some room ws w l h x e =
-    let q = e ∙ after_head 2051 (node_count room) ws w.held l h in
-    elim (cases_lt 0 (length (rg room ws l))) [
-      | inl lt ↦ (lt, sym (ap what (q ∙ cond-true (ltb 0 (length (rg room ws l))) (Some (get_or (rg room ws l) 0 0)) None (lt-ltb 0 (length (rg room ws l)) lt))))
-      | inr ge ↦ absurd (subst IsSome (q ∙ cond-false (ltb 0 (length (rg room ws l))) (Some (get_or (rg room ws l) 0 0)) None (le-ltb 0 (length (rg room ws l)) ge)) tt)
-    ]
 
 -- the first of the sequence taken out
 module _ (room : ℕ) (ws : List ℕ) (w : Whole room true ws) (n : ℕ) (at0 : (0 < length (rg room ws 2050)) × (get_or (rg room ws 2050) 0 0 ≡ n)) where
@@ -102,9 +70,6 @@ module _ (room : ℕ) (ws : List ℕ) (w : Whole room true ws) (n : ℕ) (at0 : 
   long1 : length vs ≡ length ws
   long1 = simp length-set
 
-  past1 : (k : ℕ) → 2 * N ≤ k → get_or vs k 0 ≡ get_or ws k 0
-  past1 = size_past room ws vs c1.drop'
-
   pub cut_shorter : length (rg room vs 2050) < length (Q 2050)
   cut_shorter =
       let e : length (rg room vs 2050) ≡ length (Q 2050) - 1 = ap length (rs ∙ ap (λ (y : ℕ). without y (Q 2050)) (sym at0.1) ∙ without_at 0 (Q 2050) at0.0 (ring_differ 2051 N ws w.held 2050 (omega arith))) ∙ drop_at_length 0 (Q 2050) at0.0 in
@@ -120,10 +85,10 @@ module _ (room : ℕ) (ws : List ℕ) (w : Whole room true ws) (n : ℕ) (at0 : 
     held = c1.held';
     low = λ l h. subst (AllByRecursion (λ y. y < 2051 + room)) (sym (r1 l h)) (w.low l h);
     high = subst (AllByRecursion (λ y. 2051 + room ≤ y)) (sym rs) (without_all (λ y. 2051 + room ≤ y) n (Q 2050) w.high);
-    sizes = λ l h. subst (AllByRecursion (λ y. get_or vs (text_at room y) 0 < 33)) (sym (r1 l (omega arith))) (All-weaker (λ y. get_or ws (text_at room y) 0 < 33) (λ y. get_or vs (text_at room y) 0 < 33) (λ y q. let e = past1 (text_at room y) (omega arith) in omega arith) (Q l) (w.sizes l h));
-    wells = λ l h. subst (AllByRecursion (λ y. well_formed (text_of room vs y) ≡ true)) (sym (r1 l (omega arith))) (All-weaker (λ y. well_formed (text_of room ws y) ≡ true) (λ y. well_formed (text_of room vs y) ≡ true) (λ y q. ap well_formed (text_past room ws vs c1.drop' y) ∙ q) (Q l) (w.wells l h));
-    ends = λ l h. subst (AllByRecursion (λ y. last (text_of room vs y) ≡ l)) (sym (r1 l (omega arith))) (All-weaker (λ y. last (text_of room ws y) ≡ l) (λ y. last (text_of room vs y) ≡ l) (λ y q. ap last (text_past room ws vs c1.drop' y) ∙ q) (Q l) (w.ends l h));
-    spans = subst (AllByRecursion (λ y. (get_or vs (text_at room (y - room)) 0 < 33) × (get_or vs (text_at room (y - room) + 1) 0 < 33))) (sym rs) (without_all (λ y. (get_or vs (text_at room (y - room)) 0 < 33) × (get_or vs (text_at room (y - room) + 1) 0 < 33)) n (Q 2050) (All-weaker (λ y. (get_or ws (text_at room (y - room)) 0 < 33) × (get_or ws (text_at room (y - room) + 1) 0 < 33)) (λ y. (get_or vs (text_at room (y - room)) 0 < 33) × (get_or vs (text_at room (y - room) + 1) 0 < 33)) (λ y q. let e = past1 (text_at room (y - room)) (omega arith) in let f = past1 (text_at room (y - room) + 1) (omega arith) in let q0 = q.0 in let q1 = q.1 in (omega arith, omega arith)) (Q 2050) w.spans));
+    sizes = λ l h. subst (AllByRecursion (Short room vs)) (sym (r1 l (omega arith))) (sizes_past room ws vs c1.drop' (Q l) (w.sizes l h));
+    wells = λ l h. subst (AllByRecursion (Well room vs)) (sym (r1 l (omega arith))) (wells_past room ws vs c1.drop' (Q l) (w.wells l h));
+    ends = λ l h. subst (AllByRecursion (Ends room vs l)) (sym (r1 l (omega arith))) (ends_past room ws vs c1.drop' l (Q l) (w.ends l h));
+    spans = subst (AllByRecursion (λ y. Spanned room vs (y - room))) (sym rs) (without_all (λ y. Spanned room vs (y - room)) n (Q 2050) (spans_past room ws vs c1.drop' (Q 2050) w.spans));
     sized = let t = total_same 2048 (λ l. length (rg room vs l)) (λ l. length (Q l)) (λ l h. ap length (r1 l (omega arith))) in let a = ap length (r1 2048 (omega arith)) in let b = ap length (r1 2049 (omega arith)) in let z = w.sized in omega arith;
     loose = subst (AllByRecursion (λ y. next vs (y + room) ≡ y + room)) (sym (r1 2048 (omega arith))) (All-from_get_or (λ y. next vs (y + room) ≡ y + room) (Q 2048) 0 (λ j k.
         let q = All-get_or (λ y. y < 2051 + room) (Q 2048) j 0 k (w.low 2048 (omega arith)) in
@@ -132,7 +97,7 @@ module _ (room : ℕ) (ws : List ℕ) (w : Whole room true ws) (n : ℕ) (at0 : 
       | inl e ↦ ap (next vs) e ∙ c1.alone' ∙ sym e
       | inr ne ↦ c1.still' m h (w.joins m g h (lacks_without m n (Q 2050) ne (subst (Lacks m) rs lk)))
     ];
-    used = subst (AllByRecursion (λ y. any_to 2048 (λ k. passes room vs k (y - room)) ≡ true)) (sym rs) (without_all (λ y. any_to 2048 (λ k. passes room vs k (y - room)) ≡ true) n (Q 2050) (All-weaker (λ y. any_to 2048 (λ k. passes room ws k (y - room)) ≡ true) (λ y. any_to 2048 (λ k. passes room vs k (y - room)) ≡ true) (λ y q. passes_same room ws vs (y - room) (text_past room ws vs c1.drop' (y - room)) (was_past room ws vs c1.drop' (y - room)) ∙ q) (Q 2050) w.used));
+    used = subst (AllByRecursion (λ y. InUse room vs (y - room))) (sym rs) (without_all (λ y. InUse room vs (y - room)) n (Q 2050) (useds_past room ws vs c1.drop' (Q 2050) w.used));
     off = λ e. absurd (both_ways true e refl);
   }
 
@@ -193,9 +158,6 @@ module _ (room : ℕ) (ws : List ℕ) (w : Whole room true ws) (none : rg room w
   pub free_kin : Kin room ws us
   free_kin = record { long = long2; owns = r_low; past = dr }
 
-  past2 : (k : ℕ) → 2 * node_count room ≤ k → get_or us k 0 ≡ get_or ws k 0
-  past2 = size_past room ws us dr
-
   x_alone : next us (x + room) ≡ x + room
   x_alone = let a = xs.0 in let b = xs.1 in stays (x + room) (omega arith) (omega arith) (w.joins (x + room) (omega arith) (omega arith) (subst (Lacks (x + room)) (sym none) tt))
 
@@ -211,24 +173,24 @@ module _ (room : ℕ) (ws : List ℕ) (w : Whole room true ws) (none : rg room w
       ]
     ];
     high = subst (AllByRecursion (λ y. 2051 + room ≤ y)) (sym free_none) tt;
-    sizes = λ l h. subst (AllByRecursion (λ y. get_or us (text_at room y) 0 < 33)) (sym (r_low l h)) (All-weaker (λ y. get_or ws (text_at room y) 0 < 33) (λ y. get_or us (text_at room y) 0 < 33) (λ y q. let e = past2 (text_at room y) (omega arith) in omega arith) (P l) (w.sizes l h));
-    wells = λ l h. subst (AllByRecursion (λ y. well_formed (text_of room us y) ≡ true)) (sym (r_low l h)) (All-weaker (λ y. well_formed (text_of room ws y) ≡ true) (λ y. well_formed (text_of room us y) ≡ true) (λ y q. ap well_formed (text_past room ws us dr y) ∙ q) (P l) (w.wells l h));
-    ends = λ l h. subst (AllByRecursion (λ y. last (text_of room us y) ≡ l)) (sym (r_low l h)) (All-weaker (λ y. last (text_of room ws y) ≡ l) (λ y. last (text_of room us y) ≡ l) (λ y q. ap last (text_past room ws us dr y) ∙ q) (P l) (w.ends l h));
-    spans = subst (AllByRecursion (λ y. (get_or us (text_at room (y - room)) 0 < 33) × (get_or us (text_at room (y - room) + 1) 0 < 33))) (sym free_none) tt;
+    sizes = λ l h. subst (AllByRecursion (Short room us)) (sym (r_low l h)) (sizes_past room ws us dr (P l) (w.sizes l h));
+    wells = λ l h. subst (AllByRecursion (Well room us)) (sym (r_low l h)) (wells_past room ws us dr (P l) (w.wells l h));
+    ends = λ l h. subst (AllByRecursion (Ends room us l)) (sym (r_low l h)) (ends_past room ws us dr l (P l) (w.ends l h));
+    spans = subst (AllByRecursion (λ y. Spanned room us (y - room))) (sym free_none) tt;
     sized = let t = total_same 2048 (λ l. length (rg room us l)) (λ l. length (P l)) (λ l h. ap length (r_low l h)) in let a = ap length r_free ∙ length_push (P 2048) x in let b = gone_length in let c = at0.0 in let z = w.sized in omega arith;
     loose = subst (AllByRecursion (λ y. next us (y + room) ≡ y + room)) (sym r_free) (All-push (λ y. next us (y + room) ≡ y + room) (P 2048) x (All-from_get_or (λ y. next us (y + room) ≡ y + room) (P 2048) 0 (λ j k.
         let p = (slot_at 2051 (node_count room) ws w.held 2048 j (omega arith) k).0 in
         let q = All-get_or (λ y. y < 2051 + room) (P 2048) j 0 k (w.low 2048 (omega arith)) in
         stays (get_or (P 2048) j 0 + room) (omega arith) (omega arith) (All-get_or (λ y. next ws (y + room) ≡ y + room) (P 2048) j 0 k w.loose))) x_alone);
     joins = λ m g h lk. stays m (omega arith) h (w.joins m g h (subst (Lacks m) (sym none) tt));
-    used = subst (AllByRecursion (λ y. any_to 2048 (λ k. passes room us k (y - room)) ≡ true)) (sym free_none) tt;
+    used = subst (AllByRecursion (λ y. InUse room us (y - room))) (sym free_none) tt;
     off = λ e. absurd (both_ways true e refl);
   }
 
 -- what it means
 module _ (room : ℕ) (ix : Bool) (ws us : List ℕ) (some : 0 < room) (k : Kin room ws us) (none : rg room us 2050 ≡ []) (gone : rg room us 2049 ≡ []) where
-  off_owns : (l : ℕ) → own_of room us l ≡ own_of room ws l
-  off_owns l = elim (cases_lt l 2048) [ inl h ↦ own_is room us l some h ∙ k.owns l h ∙ sym (own_is room ws l some h) | inr g ↦ own_none room us l g ∙ sym (own_none room ws l g) ]
+  pub off_owns : (l : ℕ) → own_of room us l ≡ own_of room ws l
+  off_owns = own_same room ws some us k.owns
 
   off_seq : seq_of room us ≡ []
   off_seq = seq_is room us some ∙ ap (map (λ n. n - room)) none

@@ -1,9 +1,9 @@
 -- A clause removed from a scanned store. Assumes nothing.
-use Rattle.std.proofs.Common.{◌≡◌, ℕ, ◌+◌, ◌-◌, ◌*◌, ◌<◌, ◌≤◌, Bool, true, not, ◌&&◌, eqb, ltb, List, [], ◌∷◌, ◌++◌, map, length, get_or, take, drop, set, filter, sym, refl, ap, ◌∙◌, subst, inl, inr, arith}
+use Rattle.std.proofs.Common.{◌≡◌, ℕ, ◌+◌, ◌-◌, ◌*◌, ◌<◌, ◌≤◌, Bool, eqb, List, [], ◌∷◌, ◌++◌, map, length, get_or, take, drop, set, filter, sym, refl, ap, ◌∙◌, subst, inl, inr, arith}
 use mathlib.Core.Path.{fun_ext}
 use Rattle.std.specs.List.{AllByRecursion}
-use Rattle.std.proofs.lemmas.Bool.{cases_lt, cases_eq, cases_Bool, cond-true, cond-false, cond_both, lt-ltb}
-use Rattle.std.proofs.lemmas.List.{length_push, length-take-le, length-set, length-map}
+use Rattle.std.proofs.lemmas.Bool.{cases_lt, cases_eq, cases_Bool, cond-true, cond-false, cond_both}
+use Rattle.std.proofs.lemmas.List.{length_push, length-take-le, length-set}
 use Rattle.std.proofs.ByRecursion.{All-get_or, All-from_get_or, All-push, All-weaker, All-set, All-take}
 use Rattle.rings.specs.Rings.{next, prev, Held, Place, linked, unlinked, swapped, without, at}
 use Rattle.rings.specs.Rings.{Lacks}
@@ -13,17 +13,16 @@ use Rattle.rings.proofs.Drops.{at_here, at_else}
 use Rattle.rings.proofs.Shifts.{slot_at, Cuts, cuts, Swaps, swaps, push_held, push_ring, push_drop, push_still}
 use Rattle.rings.specs.Rings.{cut_out, put_in, swapped_out}
 use Rattle.rings.proofs.Bounds.{cut_is, put_is, swapped_is}
-use Rattle.network.specs.Clauses.{last, has, well_formed}
 use Rattle.rules.specs.Store.{removed}
-use Rattle.scanned.specs.Sums.{total, any_to}
+use Rattle.scanned.specs.Sums.{total}
 use Rattle.slots.specs.Slots.{filled_by_last}
 use Rattle.slots.specs.Slots.{meant}
 use Rattle.slots.proofs.Slots.{removed_is}
-use Rattle.scanned.specs.Layout.{node_count, rg, text_at, text_of, was_of, own_of, seq_of, used_of, dead_of, meaning_of, passes, Whole, Sound, At}
-use Rattle.scanned.proofs.Wholes.{own_is, own_none, kept_is}
-use Rattle.scanned.proofs.Totals.{total_same, total_at}
-use Rattle.scanned.proofs.Admits.{seq_is, dead_is, passes_same}
-use Rattle.scanned.proofs.Joins.{text_past, was_past, size_past}
+use Rattle.scanned.specs.Layout.{node_count, rg, text_of, own_of, seq_of, used_of, dead_of, meaning_of, passes, Whole, Sound, At}
+use Rattle.scanned.proofs.Wholes.{kept_is, own_changed, own_total}
+use Rattle.scanned.proofs.Totals.{total_at}
+use Rattle.scanned.proofs.Admits.{seq_is, dead_is}
+use Rattle.scanned.proofs.Joins.{Short, Well, Ends, Spanned, InUse, text_past, sizes_past, wells_past, ends_past, spans_past, useds_past, passes_past}
 use Rattle.scanned.proofs.Asks.{at_literal, at_ring, at_slot, at_low}
 
 pub lacks_without : (m n : ℕ) (ys : List ℕ) → (m ≡ n → ⊥) → Lacks m (without n ys) → Lacks m ys
@@ -214,9 +213,6 @@ module _ (room : ℕ) (ix : Bool) (ws : List ℕ) (w : Whole room ix ws) (some :
       let f = new_length in
       omega arith
 
-  sizes_past : (k : ℕ) → 2 * N ≤ k → get_or v3 k 0 ≡ get_or ws k 0
-  sizes_past = size_past room ws v3 drop3
-
   pub remove_whole : length v3 ≡ length ws → Whole room ix v3
   remove_whole same = record {
     long = let p = w.long in omega arith;
@@ -229,10 +225,10 @@ module _ (room : ℕ) (ix : Bool) (ws : List ℕ) (w : Whole room ix ws) (some :
       ]
     ];
     high = subst (AllByRecursion (λ y. 2051 + room ≤ y)) (sym ring_seq) (without_all (λ y. 2051 + room ≤ y) n (Q 2050) w.high);
-    sizes = owned (λ _ y. get_or v3 (text_at room y) 0 < 33) (λ m h. All-weaker (λ y. get_or ws (text_at room y) 0 < 33) (λ y. get_or v3 (text_at room y) 0 < 33) (λ y q. let e = sizes_past (text_at room y) (omega arith) in omega arith) (Q m) (w.sizes m h));
-    wells = owned (λ _ y. well_formed (text_of room v3 y) ≡ true) (λ m h. All-weaker (λ y. well_formed (text_of room ws y) ≡ true) (λ y. well_formed (text_of room v3 y) ≡ true) (λ y q. ap well_formed (text_past room ws v3 drop3 y) ∙ q) (Q m) (w.wells m h));
-    ends = owned (λ m y. last (text_of room v3 y) ≡ m) (λ m h. All-weaker (λ y. last (text_of room ws y) ≡ m) (λ y. last (text_of room v3 y) ≡ m) (λ y q. ap last (text_past room ws v3 drop3 y) ∙ q) (Q m) (w.ends m h));
-    spans = subst (AllByRecursion (λ y. (get_or v3 (text_at room (y - room)) 0 < 33) × (get_or v3 (text_at room (y - room) + 1) 0 < 33))) (sym ring_seq) (without_all (λ y. (get_or v3 (text_at room (y - room)) 0 < 33) × (get_or v3 (text_at room (y - room) + 1) 0 < 33)) n (Q 2050) (All-weaker (λ y. (get_or ws (text_at room (y - room)) 0 < 33) × (get_or ws (text_at room (y - room) + 1) 0 < 33)) (λ y. (get_or v3 (text_at room (y - room)) 0 < 33) × (get_or v3 (text_at room (y - room) + 1) 0 < 33)) (λ y q. let e = sizes_past (text_at room (y - room)) (omega arith) in let f = sizes_past (text_at room (y - room) + 1) (omega arith) in let q0 = q.0 in let q1 = q.1 in (omega arith, omega arith)) (Q 2050) w.spans));
+    sizes = owned (λ _. Short room v3) (λ m h. sizes_past room ws v3 drop3 (Q m) (w.sizes m h));
+    wells = owned (λ _. Well room v3) (λ m h. wells_past room ws v3 drop3 (Q m) (w.wells m h));
+    ends = owned (Ends room v3) (λ m h. ends_past room ws v3 drop3 m (Q m) (w.ends m h));
+    spans = subst (AllByRecursion (λ y. Spanned room v3 (y - room))) (sym ring_seq) (without_all (λ y. Spanned room v3 (y - room)) n (Q 2050) (spans_past room ws v3 drop3 (Q 2050) w.spans));
     sized = let p = ll in let t = remove_total in let e = ap length ring_free ∙ length_push (Q 2048) x in let d = ap length (ring_else 2049 (omega arith) (λ q. omega arith) (λ q. omega arith)) in let z = w.sized in omega arith;
     loose = subst (AllByRecursion (λ y. next v3 (y + room) ≡ y + room)) (sym ring_free) (All-push (λ y. next v3 (y + room) ≡ y + room) (Q 2048) x (All-from_get_or (λ y. next v3 (y + room) ≡ y + room) (Q 2048) 0 (λ j k.
         let p = (slot_at 2051 N ws w.held 2048 j (omega arith) k).0 in
@@ -246,27 +242,19 @@ module _ (room : ℕ) (ix : Bool) (ws : List ℕ) (w : Whole room ix ws) (some :
           | inl e ↦ ap (next v3) e ∙ still3 n ns.0 ns.1 (λ z. omega arith) c1.alone' ∙ sym e
           | inr ne ↦ still3 m (omega arith) h (λ z. omega arith) (c1.still' m h (w.joins m g h (lacks_without m n (Q 2050) ne (subst (Lacks m) ring_seq lk))))
         ];
-    used = subst (AllByRecursion (λ y. any_to 2048 (λ k. passes room v3 k (y - room)) ≡ true)) (sym ring_seq) (without_all (λ y. any_to 2048 (λ k. passes room v3 k (y - room)) ≡ true) n (Q 2050) (All-weaker (λ y. any_to 2048 (λ k. passes room ws k (y - room)) ≡ true) (λ y. any_to 2048 (λ k. passes room v3 k (y - room)) ≡ true) (λ y q. passes_same room ws v3 (y - room) (text_past room ws v3 drop3 (y - room)) (was_past room ws v3 drop3 (y - room)) ∙ q) (Q 2050) w.used));
+    used = subst (AllByRecursion (λ y. InUse room v3 (y - room))) (sym ring_seq) (without_all (λ y. InUse room v3 (y - room)) n (Q 2050) (useds_past room ws v3 drop3 (Q 2050) w.used));
     off = λ e. let p = ll in (ring_else 2049 (omega arith) (λ q. omega arith) (λ q. omega arith) ∙ (w.off e).0, ring_seq ∙ ap (without n) (w.off e).1);
   }
 
   pub remove_live : total 2048 (λ m. length (own_of room v3 m)) + 1 ≡ total 2048 (λ m. length (own_of room ws m))
   remove_live =
-      let p = total_same 2048 (λ m. length (own_of room v3 m)) (λ m. length (rg room v3 m)) (λ m h. ap length (own_is room v3 m some h)) in
-      let q = total_same 2048 (λ m. length (own_of room ws m)) (λ m. length (Q m)) (λ m h. ap length (own_is room ws m some h)) in
+      let p = own_total room v3 some in
+      let q = own_total room ws some in
       let t = remove_total in
       omega arith
 
   owns : (m : ℕ) → own_of room v3 m ≡ at (own_of room ws) l (filled_by_last 0 i (own_of room ws l)) m
-  owns m =
-      let e = own_is room ws l some ll in
-      elim (cases_lt m 2048) [
-        | inr g ↦ let p = ll in own_none room v3 m g ∙ sym (own_none room ws m g) ∙ sym (at_else (own_of room ws) l (filled_by_last 0 i (own_of room ws l)) m (λ q. omega arith))
-        | inl h ↦ elim (cases_eq m l) [
-          | inl q ↦ own_is room v3 m some h ∙ ring_own m q ∙ ap (filled_by_last 0 i) (sym e) ∙ sym (at_here (own_of room ws) l (filled_by_last 0 i (own_of room ws l)) m q)
-          | inr ne ↦ own_is room v3 m some h ∙ ring_else m (omega arith) ne (λ q. omega arith) ∙ sym (own_is room ws m some h) ∙ sym (at_else (own_of room ws) l (filled_by_last 0 i (own_of room ws l)) m ne)
-        ]
-      ]
+  owns = own_changed room ws some v3 l (filled_by_last 0 i) ll (ring_own l refl) (λ m h ne. ring_else m (omega arith) ne (λ q. omega arith))
 
   seqs : seq_of room v3 ≡ without x (seq_of room ws)
   seqs =
@@ -275,10 +263,7 @@ module _ (room : ℕ) (ix : Bool) (ws : List ℕ) (w : Whole room ix ws) (some :
   useds : (k : ℕ) → used_of room v3 k ≡ without (get_or (own_of room ws l) i 0) (used_of room ws k)
   unfolding used_of
   useds k =
-      let p3 : ℕ → Bool = λ y. has k (was_of room v3 y) && not (eqb k (last (text_of room v3 y))) in
-      let p0 : ℕ → Bool = λ y. has k (was_of room ws y) && not (eqb k (last (text_of room ws y))) in
-      let e : p3 ≡ p0 = fun_ext (λ y. ap (λ (d : List ℕ). has k d && not (eqb k (last (text_of room v3 y)))) (was_past room ws v3 drop3 y) ∙ ap (λ (d : List ℕ). has k (was_of room ws y) && not (eqb k (last d))) (text_past room ws v3 drop3 y)) in
-      ap (λ (p : ℕ → Bool). filter p (seq_of room v3)) e ∙ ap (filter p0) seqs ∙ kept_without p0 x (seq_of room ws) ∙ ap (λ (y : ℕ). without y (filter p0 (seq_of room ws))) (sym a.1)
+      ap (λ (p : ℕ → Bool). filter p (seq_of room v3)) (passes_past room ws v3 drop3 k) ∙ ap (filter (passes room ws k)) seqs ∙ kept_without (passes room ws k) x (seq_of room ws) ∙ ap (λ (y : ℕ). without y (filter (passes room ws k) (seq_of room ws))) (sym a.1)
 
   pub removed_meaning : meaning_of room ix v3 ≡ removed l i (meaning_of room ix ws)
   removed_meaning =
@@ -295,9 +280,3 @@ module _ (room : ℕ) (ix : Bool) (ws : List ℕ) (w : Whole room ix ws) (some :
       let f : length v3 ≡ length v2 = simp length-set in
       let g : length v1 ≡ length ws = simp length-set in
       f ∙ e ∙ g
-
-  pub remove_stands : ltb i (length (map (text_of room ws) (own_of room ws l))) ≡ true
-  remove_stands = let e = length-map (own_of room ws l) (text_of room ws) in let p = a.0 in lt-ltb i (length (map (text_of room ws) (own_of room ws l))) (omega arith)
-
-  pub remove_some : 0 < total 2048 (λ m. length (own_of room ws m))
-  remove_some = let p = remove_live in omega arith

@@ -1,10 +1,10 @@
 -- A clause retired in a scanned store. Assumes nothing.
-use Rattle.std.proofs.Common.{◌≡◌, ℕ, zero, suc, ◌+◌, ◌-◌, ◌*◌, ◌<◌, ◌≤◌, Bool, true, false, cond, not, ◌&&◌, eqb, ◌⊎◌, List, [], ◌∷◌, ◌++◌, map, length, get_or, drop, filter, sym, refl, ap, ◌∙◌, subst, inl, inr, arith}
+use Rattle.std.proofs.Common.{◌≡◌, ℕ, zero, suc, ◌+◌, ◌-◌, ◌*◌, ◌<◌, ◌≤◌, Bool, true, false, cond, eqb, ◌⊎◌, List, [], ◌∷◌, ◌++◌, map, length, get_or, drop, filter, sym, refl, ap, ◌∙◌, subst, inl, inr, arith}
 use mathlib.Core.Path.{fun_ext}
 use Rattle.std.specs.List.{AllByRecursion, list_any}
 use Rattle.std.proofs.lemmas.Bool.{cases_lt, cases_eq, cases_Bool, cond-true, cond-false, eq-eqb, ne_eqb, or_from, or_left, or_right}
 use Rattle.std.proofs.lemmas.List.{length_push, length-map, get_or-map}
-use Rattle.std.proofs.ByRecursion.{All-get_or, All-from_get_or, All-push, All-weaker, all_kept_by}
+use Rattle.std.proofs.ByRecursion.{All-get_or, All-from_get_or, All-push, all_kept_by}
 use Rattle.rings.specs.Rings.{next, Held, Place, linked, unlinked, drop_at, at}
 use Rattle.rings.specs.Rings.{Lacks}
 use Rattle.rings.proofs.Drops.{at_here, at_else, drop_at_all, drop_at_length}
@@ -12,18 +12,18 @@ use Rattle.rings.proofs.Words.{alone_lacks}
 use Rattle.rings.proofs.Shifts.{slot_at, moved_held, moved_ring, moved_drop, moved_still, moved_length}
 use Rattle.rings.specs.Rings.{shifted}
 use Rattle.rings.proofs.Bounds.{shifted_is}
-use Rattle.network.specs.Clauses.{last, has, well_formed}
+use Rattle.network.specs.Clauses.{has}
 use Rattle.rules.specs.Store.{retired}
 use Rattle.scanned.specs.Sums.{total, any_to}
 use Rattle.slots.specs.Slots.{meant}
 use Rattle.slots.proofs.Slots.{member}
 use Rattle.slots.proofs.Changes.{retired_is}
-use Rattle.scanned.specs.Layout.{node_count, rg, text_at, text_of, was_of, own_of, seq_of, used_of, dead_of, meaning_of, passes, Whole, Sound, At}
-use Rattle.scanned.proofs.Wholes.{own_is, own_none, kept_is}
+use Rattle.scanned.specs.Layout.{node_count, rg, text_of, own_of, seq_of, used_of, dead_of, meaning_of, passes, Whole, Sound, At}
+use Rattle.scanned.proofs.Wholes.{kept_is, own_changed, own_total}
 use Rattle.rules.specs.Store.{literals}
-use Rattle.scanned.proofs.Totals.{total_same, total_at, any_literals}
-use Rattle.scanned.proofs.Admits.{seq_is, dead_is, passes_same}
-use Rattle.scanned.proofs.Joins.{text_past, was_past, size_past}
+use Rattle.scanned.proofs.Totals.{total_at, any_literals}
+use Rattle.scanned.proofs.Admits.{seq_is, dead_is}
+use Rattle.scanned.proofs.Joins.{Short, Well, Ends, Spanned, InUse, text_past, sizes_past, wells_past, ends_past, spans_past, useds_past, passes_past}
 use Rattle.scanned.proofs.Asks.{at_literal, at_ring, at_slot, at_low}
 
 lacks_has : (x : ℕ) (ys : List ℕ) → Lacks x ys → has x ys ≡ false
@@ -155,9 +155,6 @@ module _ (room : ℕ) (ix : Bool) (ws : List ℕ) (w : Whole room ix ws) (some :
         let f = xr.0 in
         omega arith
 
-    sizes_past : (k : ℕ) → 2 * N ≤ k → get_or vs k 0 ≡ get_or ws k 0
-    sizes_past = size_past room ws vs dr
-
     both_sized : length (rg room vs 2048) + length (rg room vs 2049) ≡ length (Q 2048) + length (Q 2049) + 1
     both_sized =
         let p = ll in
@@ -196,10 +193,10 @@ module _ (room : ℕ) (ix : Bool) (ws : List ℕ) (w : Whole room ix ws) (some :
             ]
           ];
           high = subst (AllByRecursion (λ y. 2051 + room ≤ y)) (sym ring_seq) w.high;
-          sizes = owned (λ _ y. get_or vs (text_at room y) 0 < 33) (λ m k. All-weaker (λ y. get_or ws (text_at room y) 0 < 33) (λ y. get_or vs (text_at room y) 0 < 33) (λ y q. let e = sizes_past (text_at room y) (omega arith) in omega arith) (Q m) (w.sizes m k));
-          wells = owned (λ _ y. well_formed (text_of room vs y) ≡ true) (λ m k. All-weaker (λ y. well_formed (text_of room ws y) ≡ true) (λ y. well_formed (text_of room vs y) ≡ true) (λ y q. ap well_formed (text_past room ws vs dr y) ∙ q) (Q m) (w.wells m k));
-          ends = owned (λ m y. last (text_of room vs y) ≡ m) (λ m k. All-weaker (λ y. last (text_of room ws y) ≡ m) (λ y. last (text_of room vs y) ≡ m) (λ y q. ap last (text_past room ws vs dr y) ∙ q) (Q m) (w.ends m k));
-          spans = subst (AllByRecursion (λ y. (get_or vs (text_at room (y - room)) 0 < 33) × (get_or vs (text_at room (y - room) + 1) 0 < 33))) (sym ring_seq) (All-weaker (λ y. (get_or ws (text_at room (y - room)) 0 < 33) × (get_or ws (text_at room (y - room) + 1) 0 < 33)) (λ y. (get_or vs (text_at room (y - room)) 0 < 33) × (get_or vs (text_at room (y - room) + 1) 0 < 33)) (λ y q. let e = sizes_past (text_at room (y - room)) (omega arith) in let f = sizes_past (text_at room (y - room) + 1) (omega arith) in let q0 = q.0 in let q1 = q.1 in (omega arith, omega arith)) (Q 2050) w.spans);
+          sizes = owned (λ _. Short room vs) (λ m k. sizes_past room ws vs dr (Q m) (w.sizes m k));
+          wells = owned (λ _. Well room vs) (λ m k. wells_past room ws vs dr (Q m) (w.wells m k));
+          ends = owned (Ends room vs) (λ m k. ends_past room ws vs dr m (Q m) (w.ends m k));
+          spans = subst (AllByRecursion (λ y. Spanned room vs (y - room))) (sym ring_seq) (spans_past room ws vs dr (Q 2050) w.spans);
           sized = let t = retire_total in let b = both_sized in let z = w.sized in omega arith;
           loose = elim to [
             | inl q ↦
@@ -209,7 +206,7 @@ module _ (room : ℕ) (ix : Bool) (ws : List ℕ) (w : Whole room ix ws) (some :
             | inr q ↦ let e = q.0 in subst (AllByRecursion (λ y. next vs (y + room) ≡ y + room)) (sym (ring_else 2048 (omega arith) (λ z. omega arith) (λ z. omega arith))) old_loose
           ];
           joins = λ m g k lk. stays m (omega arith) k (w.joins m g k (subst (Lacks m) ring_seq lk));
-          used = subst (AllByRecursion (λ y. any_to 2048 (λ k. passes room vs k (y - room)) ≡ true)) (sym ring_seq) (All-weaker (λ y. any_to 2048 (λ k. passes room ws k (y - room)) ≡ true) (λ y. any_to 2048 (λ k. passes room vs k (y - room)) ≡ true) (λ y q. passes_same room ws vs (y - room) (text_past room ws vs dr (y - room)) (was_past room ws vs dr (y - room)) ∙ q) (Q 2050) w.used);
+          used = subst (AllByRecursion (λ y. InUse room vs (y - room))) (sym ring_seq) (useds_past room ws vs dr (Q 2050) w.used);
           off = λ e. elim to [
             | inl q ↦ let z = q.0 in (ring_else 2049 (omega arith) (λ y. omega arith) (λ y. omega arith) ∙ (w.off e).0, ring_seq ∙ (w.off e).1)
             | inr q ↦ absurd (q.1 (w.joins n ns.0 ns.1 (subst (Lacks n) (sym (w.off e).1) tt)))
@@ -218,29 +215,20 @@ module _ (room : ℕ) (ix : Bool) (ws : List ℕ) (w : Whole room ix ws) (some :
 
     pub retire_live : total 2048 (λ m. length (own_of room vs m)) + 1 ≡ total 2048 (λ m. length (own_of room ws m))
     retire_live =
-        let p = total_same 2048 (λ m. length (own_of room vs m)) (λ m. length (rg room vs m)) (λ m k. ap length (own_is room vs m some k)) in
-        let q = total_same 2048 (λ m. length (own_of room ws m)) (λ m. length (Q m)) (λ m k. ap length (own_is room ws m some k)) in
+        let p = own_total room vs some in
+        let q = own_total room ws some in
         let t = retire_total in
         omega arith
 
     owns : (m : ℕ) → own_of room vs m ≡ at (own_of room ws) l (drop_at i (own_of room ws l)) m
-    owns m =
-        let e = own_is room ws l some ll in
-        elim (cases_lt m 2048) [
-          | inr g ↦ let p = ll in own_none room vs m g ∙ sym (own_none room ws m g) ∙ sym (at_else (own_of room ws) l (drop_at i (own_of room ws l)) m (λ q. omega arith))
-          | inl k ↦ elim (cases_eq m l) [
-            | inl q ↦ own_is room vs m some k ∙ ring_own m q ∙ ap (drop_at i) (sym e) ∙ sym (at_here (own_of room ws) l (drop_at i (own_of room ws l)) m q)
-            | inr ne ↦ let q = hb.0 in own_is room vs m some k ∙ ring_else m (omega arith) ne (λ z. omega arith) ∙ sym (own_is room ws m some k) ∙ sym (at_else (own_of room ws) l (drop_at i (own_of room ws l)) m ne)
-          ]
-        ]
+    owns = let q = hb.0 in own_changed room ws some vs l (drop_at i) ll (ring_own l refl) (λ m k ne. ring_else m (omega arith) ne (λ z. omega arith))
 
     useds : used_of room vs ≡ used_of room ws
     unfolding used_of
     useds =
         fun_ext (λ k.
-        let e : passes room vs k ≡ passes room ws k = fun_ext (λ y. ap (λ (d : List ℕ). has k d && not (eqb k (last (text_of room vs y)))) (was_past room ws vs dr y) ∙ ap (λ (d : List ℕ). has k (was_of room ws y) && not (eqb k (last d))) (text_past room ws vs dr y)) in
         let q : seq_of room vs ≡ seq_of room ws = seq_is room vs some ∙ ap (map (λ y. y - room)) ring_seq ∙ sym (seq_is room ws some) in
-        ap (λ (p : ℕ → Bool). filter p (seq_of room vs)) e ∙ ap (filter (passes room ws k)) q)
+        ap (λ (p : ℕ → Bool). filter p (seq_of room vs)) (passes_past room ws vs dr k) ∙ ap (filter (passes room ws k)) q)
 
     -- in a uses list or not
     in_uses : (next ws n ≡ n → ⊥) → any_to 2048 (λ k. has x (used_of room ws k)) ≡ true
@@ -297,10 +285,3 @@ module _ (room : ℕ) (ix : Bool) (ws : List ℕ) (w : Whole room ix ws) (some :
         ap (λ (f : ℕ → List ℕ). meant room ix (own_of room vs) (used_of room vs) f (dead_of room vs)) t
         ∙ ap (λ (u : ℕ → List ℕ). meant room ix (own_of room vs) u (text_of room ws) (dead_of room vs)) useds
         ∙ retired_is (own_of room ws) (text_of room ws) (kept_is room ix ws s) l i a.0 (own_of room vs) owns room ix (used_of room ws) (dead_of room ws) (dead_of room vs) deads
-
-  -- the ring that it goes to
-  abbrev pub goes : ℕ
-  goes = cond (eqb (next ws n) n) 2048 2049
-
-  pub goes_to : ((goes ≡ 2048) × (next ws n ≡ n)) ⊎ ((goes ≡ 2049) × (next ws n ≡ n → ⊥))
-  goes_to = elim (cases_eq (next ws n) n) [ inl e ↦ inl (cond-true (eqb (next ws n) n) 2048 2049 (eq-eqb (next ws n) n e), e) | inr ne ↦ inr (cond-false (eqb (next ws n) n) 2048 2049 (ne_eqb (next ws n) n ne), ne) ]

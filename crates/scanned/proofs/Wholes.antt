@@ -1,18 +1,21 @@
 -- What the words of a scanned store say. Assumes nothing.
-use Rattle.std.proofs.Common.{◌≡◌, ℕ, ◌+◌, ◌-◌, ◌<◌, ◌≤◌, Bool, true, ◌&&◌, ltb, List, [], ◌∷◌, get_or, sym, refl, subst, inl, inr, arith}
+use Rattle.std.proofs.Common.{◌≡◌, ℕ, ◌+◌, ◌-◌, ◌<◌, ◌≤◌, Bool, true, ◌&&◌, ltb, List, [], ◌∷◌, length, get_or, sym, refl, ap, ◌∙◌, subst, inl, inr, arith}
 use mathlib.Core.Logic.{∥∥₁_elim}
 use native.Mathlib.Bridge.{le_prop}
 use mathlib.Core.HLevel.{Π_prop, ×_prop}
 use denote.Struct.Props.{≡_prop}
 use base.Stored.{coded_ℕ, coded_bool, coded_list}
 use Rattle.std.specs.List.{AllByRecursion}
-use Rattle.std.proofs.lemmas.Bool.{cond-true, cond-false, lt-ltb, le-ltb, and_from, and_left, and_right, cases_lt}
+use Rattle.std.proofs.lemmas.Bool.{cases_eq, cond-true, cond-false, lt-ltb, le-ltb, and_from, and_left, and_right, cases_lt}
 use Rattle.rings.specs.Rings.{ring, next, prev, Held, Path}
 use Rattle.rings.specs.Rings.{Differ}
 use Rattle.rings.proofs.Words.{ring_differ}
 use Rattle.network.specs.Clauses.{last, well_formed}
-use Rattle.scanned.specs.Sums.{any_to}
+use Rattle.scanned.specs.Sums.{any_to, total}
 use Rattle.slots.specs.Slots.{Kept}
+use Rattle.rings.specs.Rings.{at}
+use Rattle.rings.proofs.Drops.{at_here, at_else}
+use Rattle.scanned.proofs.Totals.{total_same}
 use Rattle.scanned.specs.Layout.{node_count, rg, text_at, text_of, own_of, passes, Whole, Sound}
 
 path_prop : (nx pv : ℕ → ℕ) (a : ℕ) (xs : List ℕ) (b : ℕ) → IsProp (Path nx pv a xs b)
@@ -75,6 +78,26 @@ own_by P room ws n s l =
       | inl r ↦ elim (cases_lt l 2048) [ inl h ↦ subst (P l) (sym (own_is room ws l r h)) (s r l h) | inr h ↦ subst (P l) (sym (own_none room ws l h)) (n l) ]
     ]
 
+-- what the rings of own lists say of them
+module _ (room : ℕ) (ws : List ℕ) (r : 0 < room) where
+  pub own_total : total 2048 (λ l. length (own_of room ws l)) ≡ total 2048 (λ l. length (rg room ws l))
+  own_total = total_same 2048 (λ l. length (own_of room ws l)) (λ l. length (rg room ws l)) (λ l h. ap length (own_is room ws l r h))
+
+  pub own_same : (vs : List ℕ) → ((m : ℕ) → m < 2048 → rg room vs m ≡ rg room ws m) → (l : ℕ) → own_of room vs l ≡ own_of room ws l
+  own_same vs e l = elim (cases_lt l 2048) [ inl h ↦ own_is room vs l r h ∙ e l h ∙ sym (own_is room ws l r h) | inr g ↦ own_none room vs l g ∙ sym (own_none room ws l g) ]
+
+  -- one changed by f, the others as they were
+  pub own_changed : (vs : List ℕ) (l : ℕ) (f : List ℕ → List ℕ) → l < 2048 → rg room vs l ≡ f (rg room ws l) → ((m : ℕ) → m < 2048 → (m ≡ l → ⊥) → rg room vs m ≡ rg room ws m) → (m : ℕ) → own_of room vs m ≡ at (own_of room ws) l (f (own_of room ws l)) m
+  own_changed vs l f hl here stay m =
+      let own = own_of room ws in
+      elim (cases_lt m 2048) [
+        | inr g ↦ own_none room vs m g ∙ sym (own_none room ws m g) ∙ sym (at_else own l (f (own l)) m (λ q. omega arith))
+        | inl h ↦ elim (cases_eq m l) [
+          | inl q ↦ own_is room vs m r h ∙ ap (rg room vs) q ∙ here ∙ ap f (sym (own_is room ws l r hl)) ∙ sym (at_here own l (f (own l)) m q)
+          | inr ne ↦ own_is room vs m r h ∙ stay m h ne ∙ sym (own_is room ws m r h) ∙ sym (at_else own l (f (own l)) m ne)
+        ]
+      ]
+
 module _ (room : ℕ) (ix : Bool) (ws : List ℕ) (s : Sound room ix ws) where
   pub kept_is : Kept (own_of room ws) (text_of room ws)
   unfolding Differ
@@ -82,6 +105,3 @@ module _ (room : ℕ) (ix : Bool) (ws : List ℕ) (s : Sound room ix ws) where
     ends = own_by (λ l xs. AllByRecursion (λ x. last (text_of room ws x) ≡ l) xs) room ws (λ l. tt) (λ r. (s r).ends);
     differ = own_by (λ l xs. Differ xs) room ws (λ l. tt) (λ r l h. ring_differ 2051 (node_count room) ws (s r).held l (omega arith));
   }
-
-  pub wells_are : (l : ℕ) → AllByRecursion (λ x. well_formed (text_of room ws x) ≡ true) (own_of room ws l)
-  wells_are = own_by (λ l xs. AllByRecursion (λ x. well_formed (text_of room ws x) ≡ true) xs) room ws (λ l. tt) (λ r. (s r).wells)

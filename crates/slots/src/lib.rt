@@ -8,8 +8,6 @@
 ghost use Rattle.slots.specs.Laws.{SlotLaws};
 
 // Each change of the slots is the change of the meaning.
-pub fn slot_laws() -> u8
+pub fn slot_laws()
     ensures { SlotLaws }
-{
-    0
-}
+{}

@@ -1,15 +1,16 @@
 ghost use Rattle.std.specs.Prelude.{◌≡◌, ℕ, ◌+◌, ◌<◌, ◌≤◌, length};
 ghost use Rattle.rules.specs.Store.{live_clauses};
 
-use crate::store::Store;
+use crate::lists::Lists;
 
 // How many clauses a walk along the own list of l meets.
-pub fn walked<S: Store>(s: &S, l: u32) -> u32
+pub fn walked<S: Lists>(s: &S, l: u32) -> u32
     ensures { result ≡ length ((S.meaning s.now).own l) }
 {
     s.lawful();
     let mut i = 0;
     let mut at = s.first(l);
+    // A loop, for a handle is tied to its place by a relation, and no function gives the list of those left, as an iterator's would.
     while let Some(h) = at {
         at = s.next(h);
         i += 1;
@@ -18,7 +19,7 @@ pub fn walked<S: Store>(s: &S, l: u32) -> u32
 }
 
 // How many clauses a walk along every own list meets: those that are live.
-pub fn walked_all<S: Store>(s: &S) -> u64
+pub fn walked_all<S: Lists>(s: &S) -> u64
     ensures { result ≡ live_clauses (S.meaning s.now) }
 {
     let mut n = 0u64;

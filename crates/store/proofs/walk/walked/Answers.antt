@@ -4,7 +4,7 @@ use Rattle.store.proofs.walk.walked.Goals as goal
 
 pub overflow_add-i : goal.overflow_add-i
 overflow_add-i g c =
-    let s = own_few (g.S.Store.meaning c.args.s.now) c.lawful.ensures.laws c.args.l in
+    let s = own_few (g.S.Lists.meaning c.args.s.now) c.lawful.ensures.laws c.args.l in
     let m = c.lawful.ensures.small in
     let i = c.loop-at.invariant.0 in
     omega arith

@@ -1,37 +1,38 @@
-use Rattle.std.proofs.Common.{◌*◌, ◌≤◌, false, length, sym, ap, ◌∙◌, subst, arith}
-use Rattle.rules.specs.Lawful.{Lawful}
-use Rattle.rules.proofs.Lawful.{emptied_lawful}
-use Rattle.scanned.proofs.Laws.{to_law}
+use Rattle.std.proofs.Common.{length, sym, refl, ap, ◌∙◌, arith}
+use Rattle.std.specs.Result.{is_ok}
 use Rattle.std.proofs.lemmas.Bool.{cond-true, cond-false}
+use Rattle.scanned.specs.Layout.{fitting}
 use Rattle.scanned.specs.Sums.{blank}
-use Rattle.scanned.specs.Layout.{fitting, node_count, meaning_of}
-use Rattle.scanned.proofs.Fills.{fitting_means, filled_scattered, filled_whole, filled_blank, filled_live, bare_blank, bare_live}
+use Rattle.scanned.proofs.Changes.{fresh_kept, none_kept}
+use Rattle.scanned.proofs.Fills.{checks, filled_blank, fitting_means, no_room_blank}
 use Rattle.scanned.proofs.scanned.Scanned.new.Goals as goal
+use Rattle.scanned.proofs.scanned.Scanned.new.Goals.{then-is_ok, else-is_ok}
 
-pub fill-requires : goal.fill-requires
-fill-requires c =
-    let f = fitting_means c.args.room (length c.args.words.now) (sym c.if-not-can.ensures) in
-    let f1 = f.1 in
+pub clear-requires : goal.clear-requires
+clear-requires c =
+    let n = length c.args.words.now in
+    let f = fitting_means c.args.room n (sym (checks c.args.room n) ∙ ap is_ok (sym c.check.ensures) ∙ sym c.is_ok.ensures.value ∙ c.if-is_ok.true) in
     let f2 = f.2 in
-    let long : 2 * node_count c.args.room ≤ length c.args.words.now = omega arith in
-    record { small = f1; none = filled_scattered c.args.room c.args.words.now c.scatter.new.ws long (c.scatter.ensures.alone long) }
+    (f.1, omega arith)
 
 pub invariant_of-result : goal.invariant_of-result
-invariant_of-result c = record { small = omega arith; alive = bare_live c.args.words.now; whole = ∣ (λ r. absurd (omega arith)) ∣₁; law = to_law (meaning_of 0 false c.args.words.now) (subst Lawful (sym (bare_blank c.args.words.now)) (emptied_lawful (blank 0))) }
-
-pub returns-then-not-can : goal.returns-then-not-can
-returns-then-not-can c =
-    let t = fitting c.args.room (length c.args.words.now) in
-    bare_blank c.args.words.now ∙ ap blank (sym (cond-false t c.args.room 0 (sym c.can.ensures ∙ c.if-not-can.true)))
-
-pub invariant_of-result-2 : goal.invariant_of-result-2
-invariant_of-result-2 c =
-    let f = fitting_means c.args.room (length c.args.words.now) (sym c.if-not-can.ensures) in
-    let f1 = f.1 in
-    let f2 = f.2 in
-    record { small = f1; alive = filled_live c.args.room c.fill.new.ws c.fill.ensures; whole = ∣ (λ r. filled_whole c.args.room c.fill.new.ws c.fill.ensures (omega (arith, c.scatter.auto.ws, c.fill.auto.ws))) ∣₁; law = to_law (meaning_of c.args.room false c.fill.new.ws) (subst Lawful (sym (filled_blank c.args.room c.fill.new.ws c.fill.ensures)) (emptied_lawful (blank c.args.room))) }
+invariant_of-result c =
+    elim c.if-is_ok.branch [
+      | then-is_ok w ↦
+          let n = length c.args.words.now in
+          let f = fitting_means c.args.room n (sym (checks c.args.room n) ∙ ap is_ok (sym c.check.ensures) ∙ sym c.is_ok.ensures.value ∙ w.if-is_ok.true) in
+          let f1 = f.1 in
+          let f2 = f.2 in
+          let l = w.clear.ensures.long in
+          rw (w.words-is, w.room-is) (fresh_kept c.args.room w.clear.new.ws f.1 w.clear.ensures.filled (omega arith))
+      | else-is_ok w ↦ rw (w.words-is, w.room-is) (none_kept 0 c.args.words.now refl)
+    ]
 
 pub returns : goal.returns
 returns c =
-    let t = fitting c.args.room (length c.args.words.now) in
-    filled_blank c.args.room c.fill.new.ws c.fill.ensures ∙ ap blank (sym (cond-true t c.args.room 0 (sym c.if-not-can.ensures)))
+    let n = length c.args.words.now in
+    let t = sym (checks c.args.room n) ∙ ap is_ok (sym c.check.ensures) ∙ sym c.is_ok.ensures.value in
+    elim c.if-is_ok.branch [
+      | then-is_ok w ↦ rw (w.words-is, w.room-is) (filled_blank c.args.room w.clear.new.ws w.clear.ensures.filled ∙ ap blank (sym (cond-true (fitting c.args.room n) c.args.room 0 (t ∙ w.if-is_ok.true))))
+      | else-is_ok w ↦ rw (w.words-is, w.room-is) (no_room_blank 0 c.args.words.now refl ∙ ap blank (sym (cond-false (fitting c.args.room n) c.args.room 0 (t ∙ w.if-is_ok.false))))
+    ]

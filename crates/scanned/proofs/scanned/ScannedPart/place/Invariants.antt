@@ -1,5 +1,0 @@
-use Rattle.scanned.proofs.Places.{Back}
-use Rattle.scanned.proofs.scanned.ScannedPart.place.Given as goal
-
-abbrev pub invariant-loop-i : goal.invariant-loop-i
-invariant-loop-i l = Back l.self.run.room l.self.run.words.now l.h l.i l.x

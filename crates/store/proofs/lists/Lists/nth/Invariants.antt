@@ -1,0 +1,9 @@
+use Rattle.std.proofs.Common.{◌<◌, ◌≤◌, length, Some, None}
+use Rattle.store.proofs.lists.Lists.nth.Given as goal
+
+abbrev pub invariant-loop-k : goal.invariant-loop-k
+invariant-loop-k g l =
+    elim l.at [
+      | None ↦ length ((g.Self.Lists.meaning l.self).own l.l) ≤ l.k
+      | Some h ↦ (g.Self.Lists.at l.self h l.l l.k) × (l.k < length ((g.Self.Lists.meaning l.self).own l.l))
+    ]
