@@ -2,16 +2,13 @@ ghost use Rattle.image.specs.Faults.{fault};
 ghost use Rattle.image.specs.Headers.{headed, run as run_of, top as top_of};
 ghost use Rattle.std.specs.Prelude.{◌≡◌, if◌then◌else◌, Ok, Err};
 
-use crate::fault::{Fault, HEAD};
+use crate::fault::{Fault, Refusal};
 
 // The highest node of an image, refused where its counts and offsets do not fit its words.
 pub fn check_head(words: &[u32]) -> Result<u32, Fault>
     ensures { result ≡ (if headed words.now then Ok (top_of words.now) else Err (fault 1 0)) }
 {
-    let refused = Fault {
-        number: HEAD,
-        place: 0,
-    };
+    let refused = Refusal::Head.at(0);
     let [top, _, first, ..] = words else {
         return Err(refused);
     };

@@ -4,7 +4,7 @@ ghost use Rattle.image.specs.Runs.{clauses, whole};
 ghost use Rattle.network.specs.Clauses.{has};
 ghost use Rattle.network.specs.Rows.{lower as lower_of, noted, noted_in};
 
-use crate::fault::{Fault, WIDE};
+use crate::fault::{Fault, Refusal};
 use crate::lower::Lower;
 use crate::reader::next_clause;
 
@@ -59,10 +59,7 @@ impl Lower {
     {
         for l in clause {
             if !self.note(*l / 2, owner) {
-                return Err(Fault {
-                    number: WIDE,
-                    place: owner,
-                });
+                return Err(Refusal::Wide.at(owner));
             }
         }
         Ok(())

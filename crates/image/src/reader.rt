@@ -2,7 +2,7 @@ ghost use Rattle.image.specs.Faults.{fault};
 ghost use Rattle.image.specs.Runs.{Front, clauses, front_cut, whole};
 ghost use Rattle.std.specs.Prelude.{◌≡◌, true, [], length, if◌then◌else◌, Ok, Err, MatchOption};
 
-use crate::fault::{CUT, Fault};
+use crate::fault::{Fault, Refusal};
 
 // The first clause of what is left of a node's run, and what follows it; none at the run's end.
 pub fn next_clause(left: &[u32], node: u32) -> Result<Option<(&[u32], &[u32])>, Fault>
@@ -13,10 +13,7 @@ pub fn next_clause(left: &[u32], node: u32) -> Result<Option<(&[u32], &[u32])>, 
         [len, rest @ ..] => {
             let len = *len as usize;
             if len == 0 || len > rest.len() {
-                return Err(Fault {
-                    number: CUT,
-                    place: node,
-                });
+                return Err(Refusal::Cut.at(node));
             }
             Ok(Some(rest.split_at(len)))
         }

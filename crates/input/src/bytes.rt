@@ -1,7 +1,7 @@
 ghost use Rattle.std.specs.Prelude.{◌≡◌, ◌≤◌, take, drop, Ok, Err};
 ghost use Rattle.input.specs.Inputs.{input_words};
 
-use image::fault::{Fault, HEAD};
+use image::fault::{Fault, Refusal};
 
 // Writes the words of an input to the front of `out`, and says how many there are; refused above 65,536 bytes and at a
 // broken last word.
@@ -9,10 +9,7 @@ pub fn decode(bytes: &[u8], out: &mut [u32; 16384]) -> Result<usize, Fault>
     ensures { elim result [ Ok n ↦ (n ≤ 16384) × (input_words bytes.now ≡ Ok (take n out.new)) × (drop n out.new ≡ drop n out.old) | Err f ↦ (input_words bytes.now ≡ Err f) × (out.new ≡ out.old) ] }
 {
     if bytes.len() > 65536 || bytes.len() % 4 != 0 {
-        return Err(Fault {
-            number: HEAD,
-            place: 0,
-        });
+        return Err(Refusal::Head.at(0));
     }
     let mut left = bytes;
     let mut n = 0;

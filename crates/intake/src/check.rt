@@ -6,7 +6,7 @@ ghost use Rattle.intake.specs.Answers.{found_both, node_answer, nodes_answer, ro
 ghost use Rattle.std.specs.Prelude.{◌≡◌, true, Result as ResultT, slice_index};
 
 use crate::search::search_rows;
-use image::fault::{COUNT, Fault, ORDER, OWNER};
+use image::fault::{Fault, Refusal};
 use image::header::{check_head, run_of};
 use image::lowers::lower_nodes;
 use image::reader::count_clauses;
@@ -36,14 +36,8 @@ pub(crate) fn has_both(run: &[u32], node: u32) -> bool
 fn check_node(run: &[u32], node: u32) -> Result<usize, Fault>
     ensures { result ≡ node_answer node run.now }
 {
-    let order = Fault {
-        number: ORDER,
-        place: node,
-    };
-    let owner = Fault {
-        number: OWNER,
-        place: node,
-    };
+    let order = Refusal::Order.at(node);
+    let owner = Refusal::Owner.at(node);
     let count = count_clauses(run, node)?;
     check_clauses(run, node, &InOrder, order)?;
     check_clauses(run, node, &OwnedBy { node }, owner)?;
@@ -73,10 +67,7 @@ pub(crate) fn check_image(words: &[u32]) -> Result<(), Fault>
     let top = check_head(words)?;
     let count = check_nodes(words, top)?;
     if words[1] as usize != count {
-        return Err(Fault {
-            number: COUNT,
-            place: 0,
-        });
+        return Err(Refusal::Count.at(0));
     }
     Ok(())
 }

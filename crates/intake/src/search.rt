@@ -3,7 +3,7 @@ ghost use Rattle.image.specs.Runs.{clauses, whole};
 ghost use Rattle.intake.specs.Answers.{searched};
 
 use crate::row::holds_in;
-use image::fault::{CLASH, Fault};
+use image::fault::{Fault, Refusal};
 use image::reader::next_clause;
 
 // Whether a row of the lower nodes allows a node both values, unless one allows none: the search ends at the first such row.
@@ -30,10 +30,7 @@ pub(crate) fn search_rows(run: &[u32], low: &[u32], node: u32) -> Result<bool, F
         loose = loose || (off && on);
     }
     if clash {
-        return Err(Fault {
-            number: CLASH,
-            place: node,
-        });
+        return Err(Refusal::Clash.at(node));
     }
     Ok(loose)
 }

@@ -6,7 +6,7 @@ ghost use Rattle.intake.specs.Answers.{first_of, froze_answer, loose_at, loose_n
 
 use crate::check::{check_image, has_both};
 use crate::state::Intake;
-use image::fault::{Fault, STRANGER};
+use image::fault::{Fault, Refusal};
 use image::header::run_of;
 use std::alloc::{AllocError, Global};
 
@@ -59,10 +59,7 @@ impl<'i> Intake<'i> {
         ensures state { elim result [ Ok _ ↦ (self.new.image ≡ self.old.image) × (self.new.frozen ≡ slice_set self.old.frozen node true) | Err f ↦ self.new ≡ self.old ] }
     {
         if node > self.top() {
-            return Err(Fault {
-                number: STRANGER,
-                place: node,
-            });
+            return Err(Refusal::Stranger.at(node));
         }
         self.frozen[node as usize] = true;
         Ok(())

@@ -5,7 +5,7 @@ use Rattle.image.proofs.Walks.{cut_at, front_at}
 use Rattle.image.proofs.reader.next_clause.Goals as goal
 
 pub returns-then-len-eq0 : goal.returns-then-len-eq0
-returns-then-len-eq0 c = (refl, cut_at c.args.left.now _ (search rules) refl (grind (arith, nat_tests)))
+returns-then-len-eq0 c = (c.at.ensures, cut_at c.args.left.now _ (search rules) refl (grind (arith, nat_tests)))
 
 pub returns-in-empty : goal.returns-in-empty
 returns-in-empty c = nil_from_length _ (search rules)

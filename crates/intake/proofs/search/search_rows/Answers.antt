@@ -1,4 +1,4 @@
-use Rattle.std.proofs.Common.{◌≡◌, ◌^◌, ◌<◌, true, false, ◌&&◌, ◌||◌, length, sym, refl, ◌∙◌, arith}
+use Rattle.std.proofs.Common.{◌≡◌, ◌^◌, ◌<◌, true, false, ◌&&◌, ◌||◌, length, Err, sym, refl, ap, ◌∙◌, arith}
 use Rattle.std.proofs.lemmas.Option.{MatchOption-at_some, MatchOption-at_none}
 use Rattle.std.proofs.lemmas.Bool.{both_ways}
 use Rattle.image.proofs.Walks.{cut_whole, whole_on}
@@ -38,7 +38,7 @@ returns-then-clash c =
           let off : w.if-off.off ≡ (w.loop-clause.off && holds (put (row c.args.low.now c.rows.row) c.args.node false) w.in-Some.clause.now) = grind arith in
           let on : w.if-on.on ≡ (w.loop-clause.on && holds (put (row c.args.low.now c.rows.row) c.args.node true) w.in-Some.clause.now) = grind arith in
           let lt : c.rows.row < 2 ^ length c.args.low.now = omega (arith, w.rows-test.true, rows_count (length c.args.low.now) c.requires.few) in
-          searched_clash c.args.low.now c.args.node (clauses c.args.run.now) (rows_stop _ _ c.args.run.now _ c.rows.row _ _ (so_far_on _ _ _ _ _ _ _ f i.2 off) (so_far_on _ _ _ _ _ _ _ f i.3 on) (2 ^ length c.args.low.now) lt w.if-not-off.true w.if-not-on.true)
+          ap Err c.at.ensures ∙ searched_clash c.args.low.now c.args.node (clauses c.args.run.now) (rows_stop _ _ c.args.run.now _ c.rows.row _ _ (so_far_on _ _ _ _ _ _ _ f i.2 off) (so_far_on _ _ _ _ _ _ _ f i.3 on) (2 ^ length c.args.low.now) lt w.if-not-off.true w.if-not-on.true)
     ]
 
 pub returns : goal.returns
