@@ -51,6 +51,5 @@ pub fn open_bytes<'i>(
     ensures into { elim result [ Ok _ ↦ OpenedBytes bytes.now into.new.image.now into.new.frozen | Err f ↦ into.new ≡ into.old ] }
 {
     let n = decode(bytes, words)?;
-    open_input(&words[0..n], into)?;
-    Ok(())
+    open_input(&words[..n], into)
 }
