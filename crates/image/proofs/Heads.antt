@@ -1,8 +1,14 @@
 -- The head of an image. Assumes nothing.
-use Rattle.std.proofs.Common.{◌≡◌, ℕ, zero, suc, ◌+◌, ◌-◌, ◌<◌, ◌≤◌, min, Bool, true, false, cond, ◌&&◌, eqb, ltb, leb, List, [], length, get_or, drop, Ok, Err, sym, refl, ap, ◌∙◌, ⊎_elim, add-one, arith, length-drop}
-use Rattle.std.proofs.lemmas.List.{get_or_past, length-take, nil_from_length, take_all}
-use Rattle.std.proofs.lemmas.Bool.{cases_lt, cond_both, lt-ltb, le-ltb, and_parts, and_from, cases_eq, leb-true, eqb-true, le-leb, eq-eqb, cond-true, cond-false}
+use Rattle.std.proofs.Common.{◌≡◌, ℕ, zero, suc, ◌+◌, ◌-◌, ◌<◌, ◌≤◌, min, Bool, true, false, cond, ◌&&◌, eqb, ltb, leb, List, [], length, get_or, drop, slice_range, MatchBool, MatchOption, Option, unwrap_or, ◌⊎◌, Ok, Some, None, Err, sym, refl, ap, ◌∙◌, ⊎_elim, add-one, arith, length-drop}
+use Rattle.std.proofs.lemmas.List.{get_or_past, get_or-take, get_or-drop, length-take, nil_from_length, take_all}
+use Rattle.std.proofs.lemmas.Bool.{cases_lt, false_from_ne_true, cond_both, lt-ltb, le-ltb, and_parts, and_from, cases_eq, leb-true, eqb-true, le-leb, eq-eqb, cond-true, cond-false}
+use Rattle.std.proofs.lemmas.List.Sorted.{non_decreasing_from_is_sorted}
+use Rattle.std.specs.Borrow.{Bor}
+use Rattle.std.specs.List.{IsAllAdjacentAnswer}
+use Rattle.std.specs.List.Sorted.{IsNonDecreasing}
+use Rattle.std.specs.Ordering.{is_some_and, is_le, nat_cmp}
 use Rattle.image.specs.Faults.{fault}
+use Rattle.image.specs.declared.fault.Fault.{Fault}
 use Rattle.image.specs.Headers.{top, offset, climbs, headed, between, run}
 
 pub climbs_none : (ws : List ℕ) → climbs ws 0 ≡ true
@@ -17,10 +23,9 @@ climbs_more ws k = refl
 pub offset_more : (ws : List ℕ) (k : ℕ) → get_or ws (k + 3) 0 ≡ offset ws (suc k)
 offset_more ws k = let e : k + 3 ≡ suc k + 2 = omega arith in ap (λ (i : ℕ). get_or ws i 0) e
 
-pub climbs_on : (ws : List ℕ) (k : ℕ) → climbs ws k ≡ true → get_or ws (k + 2) 0 ≤ get_or ws (k + 3) 0 → climbs ws (k + 1) ≡ true
-climbs_on ws k c h =
-    let l : leb (offset ws k) (offset ws (suc k)) ≡ true = le-leb _ _ (omega (arith, h, offset_more ws k)) in
-    ap (climbs ws) (add-one k) ∙ climbs_more ws k ∙ ap (λ (b : Bool). b && climbs ws k) l ∙ c
+pub climbs_from : (ws : List ℕ) (m : ℕ) → ((k : ℕ) → k < m → offset ws k ≤ offset ws (suc k)) → climbs ws m ≡ true
+climbs_from ws zero h = climbs_none ws
+climbs_from ws (suc m) h = climbs_more ws m ∙ and_from _ _ (le-leb _ _ (h m (omega arith))) (climbs_from ws m (λ k l. h k (omega arith)))
 
 pub climbs_at : (ws : List ℕ) (m k : ℕ) → climbs ws m ≡ true → k < m → offset ws k ≤ offset ws (suc k)
 climbs_at ws zero k c h = absurd (omega arith)
@@ -28,12 +33,27 @@ climbs_at ws (suc m) k c h =
     let p = and_parts (leb (offset ws m) (offset ws (suc m))) (climbs ws m) (sym (climbs_more ws m) ∙ c) in
     grind (arith, leb-true (offset ws m) (offset ws (suc m)) p.0, climbs_at ws m k p.1)
 
-pub climbs_stop : (ws : List ℕ) (m k : ℕ) → k < m → get_or ws (k + 3) 0 < get_or ws (k + 2) 0 → climbs ws m ≡ false
-climbs_stop ws m k h l = not_true_false (climbs ws m) (λ c. omega (arith, l, climbs_at ws m k c h, offset_more ws k))
+climbs_stop : (ws : List ℕ) (m k : ℕ) → k < m → offset ws (suc k) < offset ws k → climbs ws m ≡ false
+climbs_stop ws m k h l = false_from_ne_true (climbs ws m) (λ c. omega (arith, l, climbs_at ws m k c h))
+
+-- the offsets as a slice of the words
+offset_in : (ws : List ℕ) (m k : ℕ) → k ≤ m → get_or (slice_range ws 2 (m + 3)) k 0 ≡ offset ws k
+offset_in ws m k l =
+    let e : 2 + k ≡ k + 2 = omega arith in get_or-take (m + 3 - 2) (drop 2 ws) k 0 (omega arith) ∙ get_or-drop 2 ws k 0 ∙ ap (λ (i : ℕ). get_or ws i 0) e
+
+-- whether that slice is sorted
+pub climbs_is : (ws : List ℕ) (m : ℕ) (r : Bool) → m + 3 ≤ length ws → IsAllAdjacentAnswer (λ x y b. is_some_and is_le (Some (nat_cmp x y)) ≡ b) (slice_range ws 2 (m + 3)) r → r ≡ climbs ws m
+climbs_is ws m r h a = go r (non_decreasing_from_is_sorted (slice_range ws 2 (m + 3)) r a)
   where
-    not_true_false : (b : Bool) → (b ≡ true → ⊥) → b ≡ false
-    not_true_false true n = absurd (n refl)
-    not_true_false false n = refl
+    n : length (slice_range ws 2 (m + 3)) ≡ m + 1
+    n = omega (arith, length-take (m + 3 - 2) (drop 2 ws), length-drop 2 ws)
+
+    go : (r : Bool) → MatchBool r (IsNonDecreasing (slice_range ws 2 (m + 3))) ((k : ℕ) × (k + 1 < length (slice_range ws 2 (m + 3))) × ((d : ℕ) → get_or (slice_range ws 2 (m + 3)) (k + 1) d < get_or (slice_range ws 2 (m + 3)) k d)) → r ≡ climbs ws m
+    go true s = sym (climbs_from ws m (λ k l. omega (arith, s k (suc k) 0 (omega arith) (omega (arith, n)), offset_in ws m k (omega arith), offset_in ws m (suc k) l)))
+    go false (k, l, s) =
+        let j : k + 1 ≡ suc k = add-one k in
+        let m' : k < m = omega (arith, n) in
+        sym (climbs_stop ws m k m' (omega (arith, s 0, ap (λ (i : ℕ). get_or (slice_range ws 2 (m + 3)) i 0) j, offset_in ws m k (omega arith), offset_in ws m (suc k) m')))
 
 pub climbs_le : (ws : List ℕ) (m d k : ℕ) → climbs ws m ≡ true → d + k ≡ m → offset ws k ≤ offset ws m
 climbs_le ws m zero k c e = let i : k ≡ m = omega arith in omega (arith, ap (offset ws) i)
@@ -70,12 +90,8 @@ headed_from ws h =
     let e = eq-eqb _ _ h.last in
     and_from _ _ a (and_from _ _ b (and_from _ _ c (and_from _ _ d (and_from _ _ h.climb e))))
 
-not_so : (b : Bool) → (b ≡ true → ⊥) → b ≡ false
-not_so true n = absurd (n refl)
-not_so false n = refl
-
-pub head_refused : (ws : List ℕ) → (Head ws → ⊥) → Err (fault 1 0) ≡ cond (headed ws) (Ok (top ws)) (Err (fault 1 0))
-head_refused ws n = sym (cond-false _ _ _ (not_so (headed ws) (λ h. n (head_from ws h))))
+pub head_refused : (ws : List ℕ) (f : Fault) → f ≡ fault 1 0 → (Head ws → ⊥) → Err f ≡ cond (headed ws) (Ok (top ws)) (Err (fault 1 0))
+head_refused ws f e n = ap Err e ∙ sym (cond-false _ _ _ (false_from_ne_true (headed ws) (λ h. n (head_from ws h))))
 
 pub head_opened : (ws : List ℕ) → Head ws → Ok (top ws) ≡ cond (headed ws) (Ok (top ws)) (Err (fault 1 0))
 head_opened ws h = sym (cond-true _ _ _ (headed_from ws h))
@@ -110,7 +126,7 @@ pub run_past : (ws : List ℕ) (n : ℕ) → top ws < n → run ws n ≡ []
 run_past ws zero l = refl
 run_past ws (suc k) l = cond-false _ _ _ (le-ltb k (top ws) (omega arith))
 
-pub run_falls : (ws : List ℕ) (n e : ℕ) → e ≡ min (get_or ws (n + 2) 0) (length ws) → e ≤ get_or ws (n + 1) 0 → run ws n ≡ []
+run_falls : (ws : List ℕ) (n e : ℕ) → e ≡ min (get_or ws (n + 2) 0) (length ws) → e ≤ get_or ws (n + 1) 0 → run ws n ≡ []
 run_falls ws zero e m h = refl
 run_falls ws (suc k) e m h =
     cond_both (ltb k (top ws)) (between (offset ws k) (offset ws (suc k)) ws) [] (λ (z : List ℕ). z ≡ []) (λ _. none (offset ws k) (offset ws (suc k)) m (omega (arith, h, start_is ws k))) (λ _. refl)
@@ -130,7 +146,7 @@ run_short ws n l =
         zero_min b = omega arith
 
 -- what is cut out where the end is brought within the words
-pub run_cut : (ws : List ℕ) (n e : ℕ) → (n ≡ 0 → ⊥) → n ≤ top ws → e ≡ min (get_or ws (n + 2) 0) (length ws) → get_or ws (n + 1) 0 ≤ e → between (get_or ws (n + 1) 0) e ws ≡ run ws n
+run_cut : (ws : List ℕ) (n e : ℕ) → (n ≡ 0 → ⊥) → n ≤ top ws → e ≡ min (get_or ws (n + 2) 0) (length ws) → get_or ws (n + 1) 0 ≤ e → between (get_or ws (n + 1) 0) e ws ≡ run ws n
 run_cut ws zero e z l m h = absurd (z refl)
 run_cut ws (suc k) e z l m h =
     ap (λ (a : ℕ). between a e ws) (start_is ws k) ∙ clamped (offset ws k) (offset ws (suc k)) m (omega (arith, h, start_is ws k)) ∙ sym (run_is ws k (omega arith))
@@ -141,3 +157,10 @@ run_cut ws (suc k) e z l m h =
         (λ (g : length ws < b). let d = length-drop a ws in take_all (e - a) (drop a ws) (omega arith) ∙ sym (take_all (b - a) (drop a ws) (omega arith)))
         (λ (g : b ≤ length ws). let q : e ≡ b = omega arith in ap (λ (x : ℕ). between a x ws) q)
         (cases_lt (length ws) b)
+
+-- what `get` finds between those ends, or no words
+pub run_got : (ws : List ℕ) (n e : ℕ) (o : Option (Bor (List ℕ))) (d r : Bor (List ℕ)) → (n ≡ 0 → ⊥) → n ≤ top ws → e ≡ min (get_or ws (n + 2) 0) (length ws)
+    → MatchOption o ((e < get_or ws (n + 1) 0) ⊎ (length ws < e)) (λ x. (get_or ws (n + 1) 0 ≤ e) × (e ≤ length ws) × (x.now ≡ between (get_or ws (n + 1) 0) e ws) × (length x.now + get_or ws (n + 1) 0 ≡ e))
+    → r ≡ unwrap_or o d → d.now ≡ [] → r.now ≡ run ws n
+run_got ws n e None d r z l m h u i = ap (λ (x : Bor (List ℕ)). x.now) u ∙ i ∙ sym (run_falls ws n e m (⊎_elim (λ f. omega arith) (λ f. omega arith) h))
+run_got ws n e (Some x) d r z l m (b, _, x-is, _) u i = ap (λ (x : Bor (List ℕ)). x.now) u ∙ x-is ∙ run_cut ws n e z l m b

@@ -1,24 +1,19 @@
 -- The lower nodes of a run, one after another. Assumes nothing.
-use Rattle.std.proofs.Common.{◌≡◌, ℕ, ◌+◌, ◌<◌, ◌≤◌, Bool, true, false, ◌||◌, eqb, List, [], ◌∷◌, ◌++◌, length, get_or, take, drop, set, sym, ap, ◌∙◌, arith}
-use Rattle.std.specs.List.{list_any}
-use Rattle.std.proofs.lemmas.List.{at_drop_more, at_drop_all, length_push, take_more_set}
+use Rattle.std.proofs.Common.{◌≡◌, ℕ, ◌+◌, ◌<◌, ◌≤◌, Bool, true, false, ◌||◌, eqb, List, [], ◌∷◌, ◌++◌, length, get_or, drop, refl, sym, ap, ◌∙◌, arith}
+use Rattle.std.proofs.lemmas.List.{at_drop_more, at_drop_all, length_push}
 use Rattle.std.proofs.lemmas.Bool.{cond-false, cond_both, ne_eqb}
+use Rattle.std.proofs.lemmas.Bool.Decides.{nat_tests}
+use Rattle.std.specs.List.{list_any}
 use Rattle.network.specs.Clauses.{has}
 use Rattle.network.specs.Assignments.{node}
 use Rattle.image.specs.Runs.{Front, whole, clauses}
 use Rattle.image.proofs.Walks.{whole_on, whole_none, clauses_on, clauses_none}
 use Rattle.network.specs.Rows.{noted, noted_in, noted_all, lower}
 
--- a test that one of a list passes
-module _ (p : ℕ → Bool) (xs : List ℕ) (i : ℕ) (inv : list_any p (drop i xs) ≡ list_any p xs) where
-  pub any_on : i < length xs → p (get_or xs i 0) ≡ false → list_any p (drop (i + 1) xs) ≡ list_any p xs
-  any_on h t = sym (at_drop_more (list_any p) xs i 0 h ∙ ap (λ (b : Bool). b || list_any p (drop (i + 1) xs)) t) ∙ inv
-
-  pub any_here : i < length xs → p (get_or xs i 0) ≡ true → true ≡ list_any p xs
-  any_here h t = sym (at_drop_more (list_any p) xs i 0 h ∙ ap (λ (b : Bool). b || list_any p (drop (i + 1) xs)) t) ∙ inv
-
-  pub any_end : length xs ≤ i → false ≡ list_any p xs
-  any_end h = sym (at_drop_all (list_any p) xs i h) ∙ inv
+-- the test of a node's place in a list, as `contains` makes it
+has_is : (k : ℕ) (xs : List ℕ) → has k xs ≡ list_any (λ y. eqb y k) xs
+has_is k [] = refl
+has_is k (x ∷ xs) = let e : eqb k x ≡ eqb x k = grind (arith, nat_tests) in ap (λ (b : Bool). b || has k xs) e ∙ ap (λ (b : Bool). eqb x k || b) (has_is k xs)
 
 -- nodes noted
 pub noted_more : (n k : ℕ) (xs : List ℕ) → length xs ≤ length (noted n xs k)
@@ -59,11 +54,9 @@ module _ (n : ℕ) (run ws c rest xs : List ℕ) (f : Front ws c rest) (i : Noti
 pub noting_end : (n : ℕ) (run ws xs : List ℕ) → ws ≡ [] → Noting n run ws xs → (whole run ≡ true) × (xs ≡ lower n (clauses run))
 noting_end n run ws xs z i = (sym i.0 ∙ whole_none ws z, ap (noted_all n xs) (sym (clauses_none ws z)) ∙ i.1)
 
-pub noted_new : (n k : ℕ) (xs ys : List ℕ) → (k ≡ 0 → ⊥) → (k ≡ n → ⊥) → false ≡ has k ys → ys ≡ xs → noted n xs k ≡ xs ++ (k ∷ [])
-noted_new n k xs ys z o h e =
-    let f : has k xs ≡ false = sym (h ∙ ap (has k) e) in
-    let t : (eqb k 0 || (eqb k n || has k xs)) ≡ false = ap (λ (b : Bool). b || (eqb k n || has k xs)) (ne_eqb k 0 z) ∙ ap (λ (b : Bool). b || has k xs) (ne_eqb k n o) ∙ f in
+-- a node that is not among those of the list
+pub noted_new : (n k : ℕ) (xs ys : List ℕ) (b : Bool) → (k ≡ 0 → ⊥) → (k ≡ n → ⊥) → b ≡ list_any (λ y. eqb y k) ys → ys ≡ xs → b ≡ false → noted n xs k ≡ xs ++ (k ∷ [])
+noted_new n k xs ys b z o h e f =
+    let g : has k xs ≡ false = has_is k xs ∙ ap (list_any (λ y. eqb y k)) (sym e) ∙ sym h ∙ f in
+    let t : (eqb k 0 || (eqb k n || has k xs)) ≡ false = ap (λ (b : Bool). b || (eqb k n || has k xs)) (ne_eqb k 0 z) ∙ ap (λ (b : Bool). b || has k xs) (ne_eqb k n o) ∙ g in
     cond-false _ _ _ t
-
-pub noted_push : (n k i : ℕ) (xs ys : List ℕ) → i < length xs → (k ≡ 0 → ⊥) → (k ≡ n → ⊥) → false ≡ has k ys → ys ≡ take i xs → take (i + 1) (set xs i k) ≡ noted n (take i xs) k
-noted_push n k i xs ys l z o h e = take_more_set xs i k l ∙ sym (noted_new n k (take i xs) ys z o h e)

@@ -1,15 +1,14 @@
 -- The clauses of a run under a test. Assumes nothing.
-use Rattle.std.proofs.Common.{◌≡◌, ℕ, zero, suc, ◌+◌, ◌<◌, ◌≤◌, Bool, true, false, cond, ◌&&◌, ltb, List, [], ◌∷◌, ◌++◌, length, get_or, take, drop, Ok, Err, Result, sym, refl, ap, ◌∙◌, arith, length-append, length-drop}
-use Rattle.std.specs.List.{list_all}
-use Rattle.std.proofs.lemmas.List.{at_drop_more, at_drop_all, take_rest, take_at, drop_at}
-use Rattle.std.proofs.lemmas.Bool.{cond-true, cond-false, both_ways, not-true, and_parts, lt-ltb, le-ltb}
+use Rattle.std.proofs.Common.{◌≡◌, ℕ, zero, suc, ◌<◌, ◌≤◌, Bool, true, false, cond, ◌&&◌, ltb, List, [], ◌∷◌, ◌++◌, length, get_or, take, drop, Ok, Err, Result, sym, refl, ap, ◌∙◌, add-one, arith, length-append, length-drop}
+use Rattle.std.proofs.lemmas.List.{take_at, drop_at}
+use Rattle.std.proofs.lemmas.Bool.{cond-true, cond-false, both_ways, not-true, false_from_ne_true, and_parts, and_from}
 use Rattle.std.proofs.lemmas.Bool.Decides.{nat_tests}
+use Rattle.std.specs.List.{IsAllAdjacentAnswer, list_all}
 use Rattle.network.specs.Assignments.{node}
 use Rattle.network.specs.Clauses.{owner, in_order, in_order_from}
 use Rattle.image.specs.Faults.{fault, tested, ◌then◌}
 use Rattle.image.specs.declared.fault.Fault.{Fault}
 use Rattle.image.specs.Runs.{Front, length_fits, front_cut, whole_by, whole, clauses_by, clauses, clauses_pass_by, clauses_pass}
-use Rattle.image.proofs.Walks.{rest_of}
 
 module _ (p : List ℕ → Bool) (f : Fault) (n : ℕ) where
   -- more looks than words change nothing
@@ -32,9 +31,9 @@ module _ (p : List ℕ → Bool) (f : Fault) (n : ℕ) where
   unfolding clauses_pass clauses_pass_by
   pass_none ws e = ap (λ (z : List ℕ). clauses_pass p f n z) e
 
-  pub pass_cut : (ws : List ℕ) → front_cut ws ≡ true → clauses_pass p f n ws ≡ Err (fault 2 n)
-  pass_cut [] h = absurd (both_ways false refl h)
-  pass_cut (l ∷ ws) h = pass_step l ws ∙ cond-false _ _ _ (not-true (length_fits l ws) h)
+  pub pass_cut : (ws : List ℕ) (e : Fault) → e ≡ fault 2 n → front_cut ws ≡ true → clauses_pass p f n ws ≡ Err e
+  pass_cut [] e i h = absurd (both_ways false refl h)
+  pass_cut (l ∷ ws) e i h = pass_step l ws ∙ cond-false _ _ _ (not-true (length_fits l ws) h) ∙ ap Err (sym i)
 
   -- one clause on
   pub pass_front : (ws c rest : List ℕ) → Front ws c rest → clauses_pass p f n ws ≡ (tested (p c) f then (λ _. clauses_pass p f n rest))
@@ -67,27 +66,25 @@ module _ (p : List ℕ → Bool) (f : Fault) (n : ℕ) where
   unfolding clauses_pass whole clauses
   pass_whole ws h = pass_whole_by (length ws) ws h
 
--- the nodes of a clause
-module _ (p : ℕ) (xs : List ℕ) (i q : ℕ) (in' : i < length xs) (inv : in_order_from p (drop i xs) ≡ in_order_from q xs) where
-  step : in_order_from p (drop i xs) ≡ (ltb p (node (get_or xs i 0)) && in_order_from (node (get_or xs i 0)) (drop (i + 1) xs))
-  step = at_drop_more (in_order_from p) xs i 0 in'
+-- the order of the nodes of a clause, by the neighbours
+abbrev climb : ℕ → ℕ → Bool
+climb x y = ltb (node x) (node y)
 
-  pub rise_on : p < node (get_or xs i 0) → in_order_from (node (get_or xs i 0)) (drop (i + 1) xs) ≡ in_order_from q xs
-  rise_on h = sym (step ∙ ap (λ (b : Bool). b && in_order_from (node (get_or xs i 0)) (drop (i + 1) xs)) (lt-ltb _ _ h)) ∙ inv
+rise_from : (x : ℕ) (C : List ℕ) → ((k : ℕ) → k < length C → climb (get_or (x ∷ C) k 0) (get_or C k 0) ≡ true) → in_order_from (node x) C ≡ true
+rise_from x [] h = refl
+rise_from x (y ∷ C) h = and_from _ _ (h 0 (omega arith)) (rise_from y C (λ k l. h (suc k) (omega arith)))
 
-  pub rise_stop : node (get_or xs i 0) ≤ p → in_order_from q xs ≡ false
-  rise_stop h = sym inv ∙ step ∙ ap (λ (b : Bool). b && in_order_from (node (get_or xs i 0)) (drop (i + 1) xs)) (le-ltb _ _ h)
+rise_at : (x : ℕ) (C : List ℕ) (k : ℕ) → in_order_from (node x) C ≡ true → k < length C → climb (get_or (x ∷ C) k 0) (get_or C k 0) ≡ true
+rise_at x [] k h l = absurd (omega arith)
+rise_at x (y ∷ C) zero h l = (and_parts _ _ h).0
+rise_at x (y ∷ C) (suc k) h l = rise_at y C k (and_parts _ _ h).1 (omega arith)
 
-pub rise_end : (p : ℕ) (xs : List ℕ) (i q : ℕ) → length xs ≤ i → in_order_from p (drop i xs) ≡ in_order_from q xs → in_order_from q xs ≡ true
-rise_end p xs i q h inv = sym inv ∙ at_drop_all (in_order_from p) xs i h
-
-pub order_is : (ws : List ℕ) → 1 ≤ length ws → in_order ws ≡ in_order_from (node (get_or ws 0 0)) (rest_of ws)
-order_is [] h = absurd (omega arith)
-order_is (x ∷ C) h = sym (ap (in_order_from (node x)) (take_rest (x ∷ C) 1))
-
-pub order_none : (ws : List ℕ) → length ws < 1 → true ≡ in_order ws
-order_none [] h = refl
-order_none (x ∷ C) h = absurd (omega arith)
+pub in_order_is : (C : List ℕ) (r : Bool) → IsAllAdjacentAnswer (λ x y b. b ≡ climb x y) C r → r ≡ in_order C
+in_order_is [] true h = refl
+in_order_is [] false (k, l, h) = absurd (omega arith)
+in_order_is (x ∷ C) true h = sym (rise_from x C (λ k l. sym (h k 0 (omega arith) ∙ ap (λ (i : ℕ). climb (get_or (x ∷ C) k 0) (get_or (x ∷ C) i 0)) (add-one k))))
+in_order_is (x ∷ C) false (k, l, h) =
+    sym (false_from_ne_true _ (λ t. both_ways _ (sym (h 0 ∙ ap (λ (i : ℕ). climb (get_or (x ∷ C) k 0) (get_or (x ∷ C) i 0)) (add-one k))) (rise_at x C k t (omega arith))))
 
 pub owner_at : (C : List ℕ) (k : ℕ) → length C ≡ suc k → node (get_or C k 0) ≡ owner C
 owner_at [] k e = absurd (omega arith)

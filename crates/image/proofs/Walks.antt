@@ -1,9 +1,13 @@
 -- The run of a node, clause by clause. Assumes nothing.
-use Rattle.std.proofs.Common.{◌≡◌, ℕ, zero, suc, ◌+◌, ◌-◌, ◌<◌, ◌≤◌, Bool, true, false, cond, not, ◌&&◌, List, [], ◌∷◌, ◌++◌, length, get_or, take, drop, Ok, Err, Result, sym, refl, ap, ◌∙◌, subst, arith, length-append, length-drop}
-use Rattle.std.proofs.lemmas.List.{take_rest, take_at, drop_at, take-append-drop, length-take-le}
+use Rattle.std.proofs.Common.{◌≡◌, ℕ, zero, suc, ◌+◌, ◌<◌, ◌≤◌, Bool, true, false, cond, ◌&&◌, List, [], ◌∷◌, ◌++◌, length, take, drop, Ok, Err, Some, None, Option, Result, sym, refl, ap, ◌∙◌, arith, length-append, length-drop}
+use Rattle.std.proofs.lemmas.List.{take_at, drop_at}
 use Rattle.std.proofs.lemmas.Bool.Decides.{nat_tests}
 use Rattle.std.proofs.lemmas.Bool.{cond-true, both_ways, not-true}
-use Rattle.image.specs.Runs.{Front, length_fits, front_cut, whole_by, whole, clauses_by, clauses}
+use Rattle.std.specs.Borrow.{Bor}
+use Rattle.image.specs.Faults.{fault}
+use Rattle.image.specs.declared.fault.Fault.{Fault}
+use Rattle.image.specs.declared.reader.Clauses.{Clauses}
+use Rattle.image.specs.Runs.{Front, Reads, left_of, length_fits, front_cut, whole_by, whole, clauses_by, clauses}
 
 -- more looks than words change nothing
 whole_fuel : (f g : ℕ) (ws : List ℕ) → length ws ≤ f → length ws ≤ g → whole_by f ws ≡ whole_by g ws
@@ -60,35 +64,20 @@ clauses_none ws e = ap clauses e ∙ clauses_end
 pub whole_none : (ws : List ℕ) → ws ≡ [] → whole ws ≡ true
 whole_none ws e = ap whole e ∙ whole_end
 
--- what a pattern `[len, rest @ ..]` calls `rest`
-abbrev pub rest_of : List ℕ → List ℕ
-rest_of ws = take (length ws - 1) (drop 1 ws)
-
--- a run whose first length does not fit
-pub cut_at : (ws : List ℕ) (n : ℕ) → 1 ≤ length ws → n ≡ get_or ws 0 0 → length_fits n (rest_of ws) ≡ false → front_cut ws ≡ true
-cut_at [] n h e t = absurd (omega arith)
-cut_at (k ∷ ws) n h e t =
-    let r : rest_of (k ∷ ws) ≡ ws = take_rest (k ∷ ws) 1 in
-    let u : length_fits k ws ≡ false = subst (λ (z : List ℕ). length_fits k z ≡ false) r (subst (λ (z : ℕ). length_fits z (rest_of (k ∷ ws)) ≡ false) e t) in
-    ap not u
-
 pub cut_whole : (ws : List ℕ) → front_cut ws ≡ true → whole ws ≡ false
 cut_whole [] h = absurd (both_ways false refl h)
 cut_whole (k ∷ ws) h = whole_step k ws ∙ ap (λ (b : Bool). b && whole (drop k ws)) (not-true (length_fits k ws) h)
 
-pub front_at : (ws c rest : List ℕ) (n : ℕ) → 1 ≤ length ws → n ≡ get_or ws 0 0 → 0 < n → n ≤ length (rest_of ws) → c ≡ take n (rest_of ws) → rest ≡ drop n (rest_of ws) → Front ws c rest
-front_at [] c rest n h e p l c-is r-is = absurd (omega arith)
-front_at (k ∷ ws) c rest n h e p l c-is r-is =
-    let r : rest_of (k ∷ ws) ≡ ws = take_rest (k ∷ ws) 1 in
-    let c1 : c ≡ take k ws = c-is ∙ ap (λ (z : List ℕ). take n z) r ∙ ap (λ (z : ℕ). take z ws) e in
-    let r1 : rest ≡ drop k ws = r-is ∙ ap (λ (z : List ℕ). drop n z) r ∙ ap (λ (z : ℕ). drop z ws) e in
-    let le : k ≤ length ws = omega (arith, l, e, ap length r) in
-    let lc : length c ≡ k = ap length c1 ∙ length-take-le k ws le in
-    record {
-      some = omega (arith, lc, p, e);
-      less = omega (arith, ap length r1, length-drop k ws);
-      is = sym (ap (λ (z : ℕ). z ∷ (c ++ rest)) lc ∙ ap (λ (z : List ℕ). k ∷ (z ++ rest)) c1 ∙ ap (λ (z : List ℕ). k ∷ (take k ws ++ z)) r1 ∙ ap (λ (z : List ℕ). k ∷ z) (take-append-drop k ws));
-    }
+-- what a step of a walk gave
+module _ (s t : Clauses) (r : Option (Result (Bor (List ℕ)) Fault)) (h : Reads s r t) where
+  pub reads_clause : (x : Result (Bor (List ℕ)) Fault) (c : Bor (List ℕ)) → r ≡ Some x → x ≡ Ok c → Front (left_of s) c.now (left_of t)
+  reads_clause x c e o = let k = rw (e, o) at h.1 in k
+
+  pub reads_fault : (x : Result (Bor (List ℕ)) Fault) (f : Fault) (n : ℕ) → r ≡ Some x → x ≡ Err f → s.left.node ≡ n → (f ≡ fault 2 n) × (front_cut (left_of s) ≡ true)
+  reads_fault x f n e o i = let k = rw (e, o) at h.1 in (k.0 ∙ ap (fault 2) i, k.1)
+
+  pub reads_none : r ≡ None → left_of s ≡ []
+  reads_none e = let k = rw e at h.1 in k.0
 
 -- the steps of a count
 pub count_on : (ws c rest run : List ℕ) (n : ℕ) → Front ws c rest → (whole ws ≡ whole run) × (n + length (clauses ws) ≡ length (clauses run)) × (n + length ws ≤ length run)

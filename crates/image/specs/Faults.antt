@@ -3,10 +3,25 @@
 -- Assumes nothing.
 use Rattle.std.specs.Prelude.{ℕ, Bool, cond, Ok, Err, Result}
 use Rattle.image.specs.declared.fault.Fault.{Fault}
+use Rattle.image.specs.declared.fault.Refusal.{Refusal}
+use Rattle.image.specs.declared.fault.Refusal.TheVariants.{Head, Cut, Order, Owner, Wide, Clash, Count, Stranger, Room, Short}
 
 -- the refusal with number n at the place p
 abbrev pub fault : ℕ → ℕ → Fault
 fault n p = record { number = n; place = p }
+
+-- the number of a refusal in the table
+abbrev pub number_of : Refusal → ℕ
+number_of Head = 1
+number_of Cut = 2
+number_of Order = 3
+number_of Owner = 4
+number_of Wide = 5
+number_of Clash = 6
+number_of Count = 7
+number_of Stranger = 8
+number_of Room = 9
+number_of Short = 10
 
 -- go on with what was found, or stop at the refusal
 infixr 20 ◌then◌

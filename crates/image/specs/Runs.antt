@@ -1,7 +1,9 @@
 -- The run of a node: each clause as its length, then that many literals. Assumes nothing.
-use Rattle.std.specs.Prelude.{◌≡◌, ℕ, zero, suc, ◌<◌, Bool, true, false, cond, not, ◌&&◌, List, [], ◌∷◌, ◌++◌, length, take, drop, Ok, Err, Result, nat_le, nat_lt}
+use Rattle.std.specs.Prelude.{◌≡◌, ℕ, zero, suc, ◌<◌, Bool, true, false, cond, not, ◌&&◌, List, [], ◌∷◌, ◌++◌, length, take, drop, Ok, Err, Option, Result, MatchOption, MatchResult, nat_le, nat_lt}
+use Rattle.std.specs.Borrow.{Bor}
 use Rattle.image.specs.Faults.{fault, tested, ◌then◌}
 use Rattle.image.specs.declared.fault.Fault.{Fault}
+use Rattle.image.specs.declared.reader.Clauses.{Clauses}
 
 -- a length that is not 0 and does not pass the end
 abbrev pub length_fits : ℕ → List ℕ → Bool
@@ -42,6 +44,16 @@ pub record Front (ws c rest : List ℕ) : Type 0 where
   pub some : 0 < length c
   pub less : length rest < length ws
   pub is : ws ≡ length c ∷ (c ++ rest)
+
+-- the words that a walk has not come to
+abbrev pub left_of : Clauses → List ℕ
+left_of s = s.left.words.now
+
+-- one step of a walk from s to t: the first clause of what is left, or the fault where it is cut, and then nothing, or none where nothing is left
+abbrev pub Reads : Clauses → Option (Result (Bor (List ℕ)) Fault) → Clauses → Type 0
+Reads s r t =
+    (t.left.node ≡ s.left.node)
+    × MatchOption r ((left_of s ≡ []) × (left_of t ≡ [])) (λ x. MatchResult x (λ c. Front (left_of s) c.now (left_of t)) (λ f. (f ≡ fault 2 s.left.node) × (front_cut (left_of s) ≡ true) × (left_of t ≡ [])))
 
 -- each of the clauses, so many at most, passes the test p
 unfoldable pub clauses_pass_by : ℕ → (List ℕ → Bool) → Fault → ℕ → List ℕ → Result (Unit {0}) Fault

@@ -1,4 +1,5 @@
-ghost use Rattle.std.specs.Prelude.{◌++◌, Some, codes, decimal};
+ghost use Rattle.image.specs.Faults.{fault, number_of};
+ghost use Rattle.std.specs.Prelude.{◌≡◌, ◌++◌, Some, codes, decimal};
 
 use std::fmt;
 
@@ -20,23 +21,39 @@ impl fmt::Display for Fault {
     }
 }
 
-// The counts and offsets of an image do not fit; place 0.
-pub const HEAD: u32 = 1;
-// A clause's length is 0 or passes the end of its run; place the node.
-pub const CUT: u32 = 2;
-// The literals of a clause do not rise strictly, or name a node twice; place the node.
-pub const ORDER: u32 = 3;
-// The last literal of a clause is not of the run's node; place the node.
-pub const OWNER: u32 = 4;
-// The clauses of a node name over eight lower nodes besides 0; place the node.
-pub const WIDE: u32 = 5;
-// A row allows the node no value; place the node.
-pub const CLASH: u32 = 6;
-// The number of clauses is wrong; place 0.
-pub const COUNT: u32 = 7;
-// A node to freeze is not in the image; place the number.
-pub const STRANGER: u32 = 8;
-// A room is odd, under 2 or over 4,096; place the room.
-pub const ROOM: u32 = 9;
-// A store is lent too few words; place the number it needs.
-pub const SHORT: u32 = 10;
+// The table of refusals: what is wrong, and what the place of the fault is.
+#[derive(Clone, Copy, PartialEq, Eq, Debug)]
+pub enum Refusal {
+    // The counts and offsets of an image do not fit; place 0.
+    Head = 1,
+    // A clause's length is 0 or passes the end of its run; place the node.
+    Cut = 2,
+    // The literals of a clause do not rise strictly, or name a node twice; place the node.
+    Order = 3,
+    // The last literal of a clause is not of the run's node; place the node.
+    Owner = 4,
+    // The clauses of a node name over eight lower nodes besides 0; place the node.
+    Wide = 5,
+    // A row allows the node no value; place the node.
+    Clash = 6,
+    // The number of clauses is wrong; place 0.
+    Count = 7,
+    // A node to freeze is not in the image; place the number.
+    Stranger = 8,
+    // A room is odd, under 2 or over 4,096; place the room.
+    Room = 9,
+    // A store is lent too few words; place the number it needs.
+    Short = 10,
+}
+
+impl Refusal {
+    // The fault of this number at a place.
+    pub fn at(self, place: u32) -> Fault
+        ensures { result ≡ fault (number_of self) place }
+    {
+        Fault {
+            number: self as u32,
+            place,
+        }
+    }
+}

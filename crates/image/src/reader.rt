@@ -1,37 +1,63 @@
 ghost use Rattle.image.specs.Faults.{fault};
-ghost use Rattle.image.specs.Runs.{Front, clauses, front_cut, whole};
-ghost use Rattle.std.specs.Prelude.{◌≡◌, true, [], length, if◌then◌else◌, Ok, Err, MatchOption};
+ghost use Rattle.image.specs.Runs.{Reads, clauses, left_of, whole};
+ghost use Rattle.std.specs.Prelude.{◌≡◌, length, if◌then◌else◌, Ok, Err};
 
-use crate::fault::{CUT, Fault};
+use crate::fault::{Fault, Refusal};
 
-// The first clause of what is left of a node's run, and what follows it; none at the run's end.
-pub fn next_clause(left: &[u32], node: u32) -> Result<Option<(&[u32], &[u32])>, Fault>
-    ensures { elim result [ Ok o ↦ MatchOption o (left.now ≡ []) (λ p. Front left.now p.0.now p.1.now) | Err f ↦ (f ≡ fault 2 node) × (front_cut left.now ≡ true) ] }
-{
-    match left {
-        [] => Ok(None),
-        [len, rest @ ..] => {
-            let len = *len as usize;
-            if len == 0 || len > rest.len() {
-                return Err(Fault {
-                    number: CUT,
-                    place: node,
-                });
-            }
-            Ok(Some(rest.split_at(len)))
+// The words that stand for the clauses of a node, each clause as its length and then its literals; any words at all.
+#[derive(Clone, Copy)]
+pub struct Run<'i> {
+    pub words: &'i [u32],
+    pub node: u32,
+}
+
+impl<'i> Run<'i> {
+    // The clauses, one after another.
+    pub fn clauses(self) -> Clauses<'i>
+        ensures { result.left ≡ self.entry }
+    {
+        Clauses { left: self }
+    }
+
+    // How many clauses there are; refused where a length is 0 or passes the end.
+    pub fn count_clauses(self) -> Result<usize, Fault>
+        ensures { result ≡ (if whole self.entry.words.now then Ok (length (clauses self.entry.words.now)) else Err (fault 2 self.entry.node)) }
+    {
+        let mut count = 0;
+        for clause in self.clauses() {
+            clause?;
+            count += 1;
         }
+        Ok(count)
     }
 }
 
-// How many clauses a node's run has; refused where a length is 0 or passes the end.
-pub fn count_clauses(run: &[u32], node: u32) -> Result<usize, Fault>
-    ensures { result ≡ (if whole run.now then Ok (length (clauses run.now)) else Err (fault 2 node)) }
-{
-    let mut left = run;
-    let mut count = 0;
-    while let Some((_, after)) = next_clause(left, node)? {
-        left = after;
-        count += 1;
+// A walk over the clauses of a run. At a length that is 0 or passes the end it gives the fault, and then nothing.
+#[derive(Drop)]
+pub struct Clauses<'i> {
+    pub(crate) left: Run<'i>,
+}
+
+impl<'i> Iterator for Clauses<'i> {
+    ghost use Rattle.std.specs.Iterator.{at_most};
+
+    type Item = Result<&'i [u32], Fault>;
+
+    ghost next_gives = { Reads };
+
+    ghost remaining = { λ s. at_most (length (left_of s)) };
+
+    fn next(&mut self) -> Option<Result<&'i [u32], Fault>> {
+        let [len, rest @ ..] = self.left.words else {
+            return None;
+        };
+        let len = *len as usize;
+        if len == 0 || len > rest.len() {
+            self.left.words = &[];
+            return Some(Err(Refusal::Cut.at(self.left.node)));
+        }
+        let (clause, after) = rest.split_at(len);
+        self.left.words = after;
+        Some(Ok(clause))
     }
-    Ok(count)
 }

@@ -3,7 +3,7 @@ ghost use Rattle.image.specs.Runs.{clauses_pass};
 ghost use Rattle.network.specs.Clauses.{in_order, owned, owner};
 
 use crate::fault::Fault;
-use crate::reader::next_clause;
+use crate::reader::Run;
 
 // A test that every clause of a run has to pass.
 pub trait ClauseTest {
@@ -21,17 +21,7 @@ impl ClauseTest for InOrder {
     ghost pass = { λ _. in_order };
 
     fn passes(&self, clause: &[u32]) -> bool {
-        let [first, rest @ ..] = clause else {
-            return true;
-        };
-        let mut node = *first / 2;
-        for l in rest {
-            if *l / 2 <= node {
-                return false;
-            }
-            node = *l / 2;
-        }
-        true
+        clause.is_sorted_by(|a, b| *a / 2 < *b / 2)
     }
 }
 
@@ -59,21 +49,14 @@ pub fn owner_of(clause: &[u32]) -> u32
     }
 }
 
-// Refuses the run of a node with `fault` at the first clause that does not pass the test.
-pub fn check_clauses<T: ClauseTest>(
-    run: &[u32],
-    node: u32,
-    test: &T,
-    fault: Fault,
-) -> Result<(), Fault>
-    ensures { result ≡ clauses_pass (T.pass test.now) fault node run.now }
+// Refuses a run with `fault` at the first clause that does not pass the test.
+pub fn check_clauses<T: ClauseTest>(run: Run<'_>, test: &T, fault: Fault) -> Result<(), Fault>
+    ensures { result ≡ clauses_pass (T.pass test.now) fault run.entry.node run.entry.words.now }
 {
-    let mut left = run;
-    while let Some((clause, after)) = next_clause(left, node)? {
-        if !test.passes(clause) {
+    for clause in run.clauses() {
+        if !test.passes(clause?) {
             return Err(fault);
         }
-        left = after;
     }
     Ok(())
 }

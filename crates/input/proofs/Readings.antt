@@ -1,8 +1,10 @@
 -- The steps of reading an input. Assumes nothing.
-use Rattle.std.proofs.Common.{◌≡◌, ℕ, zero, suc, ◌+◌, ◌-◌, ◌*◌, ◌%◌, ◌<◌, ◌≤◌, Bool, true, false, ◌&&◌, eqb, leb, List, [], ◌∷◌, ◌++◌, length, get_or, take, drop, set, Ok, Err, Result, sym, refl, ap, ◌∙◌, subst, add-one, arith, length-drop}
-use Rattle.std.proofs.lemmas.List.{drop-drop, take_rest, take_more_set, append_assoc, append-nil, at_drop_more, at_drop_all}
-use Rattle.std.proofs.lemmas.Bool.{and_from, eq-eqb, eqb-true, leb-true, le-leb, cond-true, cond-false}
-use Rattle.image.specs.Faults.{fault, ◌then◌}
+use Rattle.std.proofs.Common.{◌≡◌, ℕ, zero, suc, ◌+◌, ◌-◌, ◌*◌, ◌/◌, ◌%◌, ◌<◌, ◌≤◌, Bool, true, List, [], ◌∷◌, ◌++◌, length, get_or, map, take, drop, set, Ok, Err, Result, sym, refl, ap, ◌∙◌, subst, drop_of_length-le, arith}
+use Rattle.std.proofs.lemmas.List.{take_rest, append-nil, at_drop_more, at_drop_all}
+use Rattle.std.proofs.lemmas.Bool.{and_from, eq-eqb, le-leb, cond-true}
+use Rattle.std.specs.Int.{w32, from_le_bytes}
+use Rattle.std.specs.Simd.{first_chunks}
+use Rattle.image.specs.Faults.{◌then◌}
 use Rattle.intake.specs.Answers.{take_in_answer, froze_answer}
 use Rattle.intake.proofs.Steps.{then_at, then_stop}
 use Rattle.image.specs.declared.fault.Fault.{Fault}
@@ -24,44 +26,27 @@ words_none (a ∷ b ∷ []) h = refl
 words_none (a ∷ b ∷ c ∷ []) h = refl
 words_none (a ∷ b ∷ c ∷ d ∷ xs) h = absurd (omega arith)
 
-drop_more_set : (out : List ℕ) (n w : ℕ) → drop (n + 1) (set out n w) ≡ drop (n + 1) out
-drop_more_set out n w = ap (λ (k : ℕ). drop k (set out n w)) (add-one n) ∙ past out n ∙ ap (λ (k : ℕ). drop k out) (sym (add-one n))
-  where
-    past : (xs : List ℕ) (n : ℕ) → drop (suc n) (set xs n w) ≡ drop (suc n) xs
-    past [] n = refl
-    past (x ∷ xs) zero = refl
-    past (x ∷ xs) (suc n) = past xs n
-
-drop_one_more : (xs ys : List ℕ) (n : ℕ) → drop n xs ≡ drop n ys → drop (n + 1) xs ≡ drop (n + 1) ys
-drop_one_more xs ys n e = split xs ∙ ap (drop 1) e ∙ sym (split ys)
-  where
-    split : (zs : List ℕ) → drop (n + 1) zs ≡ drop 1 (drop n zs)
-    split zs = sym (drop-drop 1 n zs)
+-- the words of a list are those of its chunks of four bytes
+words_are : (n : ℕ) (xs : List ℕ) → 4 * n ≤ length xs → length xs < 4 * n + 4 → words_of xs ≡ map (from_le_bytes w32) (first_chunks 4 n xs)
+words_are zero xs h l = words_none xs (omega arith)
+words_are (suc n) [] h l = absurd (omega arith)
+words_are (suc n) (a ∷ []) h l = absurd (omega arith)
+words_are (suc n) (a ∷ b ∷ []) h l = absurd (omega arith)
+words_are (suc n) (a ∷ b ∷ c ∷ []) h l = absurd (omega arith)
+words_are (suc n) (a ∷ b ∷ c ∷ d ∷ xs) h l =
+    words_step (a ∷ b ∷ c ∷ d ∷ xs) (omega arith) ∙ ap (λ (w : ℕ). w ∷ words_of xs) (omega arith) ∙ ap (λ (ws : List ℕ). from_le_bytes w32 (a ∷ b ∷ c ∷ d ∷ []) ∷ ws) (words_are n xs (omega arith) (omega arith))
 
 -- so many words are written, and the others stand
-abbrev pub Decoding : List ℕ → List ℕ → ℕ → List ℕ → List ℕ → Type 0
-Decoding bytes left n old out = (4 * n + length left ≡ length bytes) × (take n out ++ words_of left ≡ words_of bytes) × (drop n out ≡ drop n old)
+abbrev pub Decoding : List (List ℕ) → ℕ → List ℕ → List ℕ → Type 0
+Decoding words k old out = (take k out ++ map (from_le_bytes w32) (drop k words) ≡ map (from_le_bytes w32) words) × (drop k out ≡ drop k old)
 
-pub decoding_on : (bytes left rest old out : List ℕ) (n a0 a1 a2 a3 : ℕ) → 4 ≤ length left → rest ≡ take (length left - 4) (drop 4 left) → n < length out → a0 ≡ get_or left 0 0 → a1 ≡ get_or left 1 0 → a2 ≡ get_or left 2 0 → a3 ≡ get_or left 3 0 → Decoding bytes left n old out → Decoding bytes rest (n + 1) old (set out n (word a0 a1 a2 a3))
-decoding_on bytes left rest old out n a0 a1 a2 a3 h r l e0 e1 e2 e3 (a, b, k) =
-    let r1 : rest ≡ drop 4 left = r ∙ take_rest left 4 in
-    let w = word a0 a1 a2 a3 in
-    let e : word a0 a1 a2 a3 ≡ word (get_or left 0 0) (get_or left 1 0) (get_or left 2 0) (get_or left 3 0) = omega (arith, e0, e1, e2, e3) in
-    (omega (arith, a, h, ap length r1, length-drop 4 left), ap (λ (z : List ℕ). z ++ words_of rest) (take_more_set out n w l) ∙ append_assoc (take n out) (w ∷ []) (words_of rest) ∙ ap (λ (z : List ℕ). take n out ++ (w ∷ words_of z)) r1 ∙ ap (λ (z : ℕ). take n out ++ (z ∷ words_of (drop 4 left))) e ∙ ap (λ (z : List ℕ). take n out ++ z) (sym (words_step left h)) ∙ b, drop_more_set out n w ∙ drop_one_more out old n k)
-
-pub decoding_end : (bytes left old out : List ℕ) (n : ℕ) → length bytes ≤ 65536 → length left < 4 → length bytes % 4 ≡ 0 → Decoding bytes left n old out → (n ≤ 16384) × (input_words bytes ≡ Ok (take n out)) × (drop n out ≡ drop n old)
-decoding_end bytes left old out n few h m (a, b, k) =
-    let e : take n out ≡ words_of bytes = sym (append-nil (take n out)) ∙ ap (λ (z : List ℕ). take n out ++ z) (sym (words_none left h)) ∙ b in
-    (omega (arith, a, h, m), cond-true _ _ _ (and_from _ _ (le-leb _ _ few) (eq-eqb _ _ m)) ∙ ap Ok (sym e), k)
-
--- a length that is refused
-pub decoding_refused : (bytes : List ℕ) → (length bytes ≤ 65536 → length bytes % 4 ≡ 0 → ⊥) → input_words bytes ≡ Err (fault 1 0)
-decoding_refused bytes h = cond-false _ _ _ (not_both (leb (length bytes) 65536) (eqb (length bytes % 4) 0) (λ a b. h (leb-true _ _ a) (eqb-true _ _ b)))
-  where
-    not_both : (a b : Bool) → (a ≡ true → b ≡ true → ⊥) → (a && b) ≡ false
-    not_both true true n = absurd (n refl refl)
-    not_both true false n = refl
-    not_both false b n = refl
+pub decoding_end : (bytes old out : List ℕ) (words : List (List ℕ)) (k n : ℕ) → words ≡ first_chunks 4 (length bytes / 4) bytes → k ≡ n → length words ≡ n → n ≡ length bytes / 4 → n ≤ 16384 → length bytes % 4 ≡ 0 → Decoding words k old out
+    → (n ≤ 16384) × (input_words bytes ≡ Ok (take n out)) × (drop n out ≡ drop n old)
+decoding_end bytes old out words k n c i l q few m (a, d) =
+    let f = from_le_bytes w32 in
+    let e : take n out ≡ words_of bytes =
+    ap (λ (j : ℕ). take j out) (sym i) ∙ sym (append-nil (take k out)) ∙ ap (λ (z : List (List ℕ)). take k out ++ map f z) (sym (drop_of_length-le words (omega arith))) ∙ a ∙ ap (map f) c ∙ sym (words_are (length bytes / 4) bytes (omega arith) (omega arith)) in
+    (few, cond-true _ _ _ (and_from _ _ (le-leb (length bytes) 65536 (omega arith)) (eq-eqb _ _ m)) ∙ ap Ok (sym e), ap (λ (j : ℕ). drop j out) (sym i) ∙ d ∙ ap (λ (j : ℕ). drop j old) i)
 
 -- the parts of an input
 abbrev rest_of : List ℕ → List ℕ

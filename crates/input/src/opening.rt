@@ -2,7 +2,7 @@ ghost use Rattle.input.specs.Inputs.{Opened, OpenedBytes, bytes_answer, freeze_a
 ghost use Rattle.std.specs.Prelude.{◌≡◌, Ok, Err, OnOk};
 
 use crate::bytes::decode;
-use image::fault::{Fault, HEAD};
+use image::fault::{Fault, Refusal};
 use intake::state::Intake;
 use intake::taken::take_in;
 
@@ -12,10 +12,7 @@ fn split(words: &[u32]) -> Result<(&[u32], &[u32]), Fault>
 {
     match words {
         [count, rest @ ..] if *count as usize <= rest.len() => Ok(rest.split_at(*count as usize)),
-        _ => Err(Fault {
-            number: HEAD,
-            place: 0,
-        }),
+        _ => Err(Refusal::Head.at(0)),
     }
 }
 
@@ -54,6 +51,5 @@ pub fn open_bytes<'i>(
     ensures into { elim result [ Ok _ ↦ OpenedBytes bytes.now into.new.image.now into.new.frozen | Err f ↦ into.new ≡ into.old ] }
 {
     let n = decode(bytes, words)?;
-    open_input(&words[0..n], into)?;
-    Ok(())
+    open_input(&words[..n], into)
 }

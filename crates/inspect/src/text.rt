@@ -1,7 +1,8 @@
 ghost use Rattle.std.specs.Prelude.{◌/◌, ◌%◌, ◌∷◌, if◌then◌else◌, Some, decimal, nat_eq};
 
-use image::reader::next_clause;
+use image::reader::Run;
 use intake::state::Intake;
+use std::alloc::AllocError;
 use std::{fmt, io};
 
 // A literal as text: the node where it is true, and the node behind `!` where it is false.
@@ -33,13 +34,12 @@ fn print_clause(rt: &HostRuntime, clause: &[u32]) -> io::Result<()> {
 }
 
 // Prints the clauses of a node, one after another on a line.
-fn print_node(rt: &HostRuntime, run: &[u32], node: u32) -> io::Result<()> {
+fn print_node(rt: &HostRuntime, run: Run<'_>) -> io::Result<()> {
+    let node = run.node;
     print!(rt; "node {node}:")?;
-    let mut left = run;
-    while let Ok(Some((clause, after))) = next_clause(left, node) {
+    for clause in run.clauses().map_while(Result::ok) {
         print!(rt; " ")?;
         print_clause(rt, clause)?;
-        left = after;
     }
     println!(rt; "")
 }
@@ -54,14 +54,10 @@ fn print_nodes(rt: &HostRuntime, word: &str, nodes: &[u32]) -> io::Result<()> {
 }
 
 // The frozen nodes of an intake.
-fn frozen_nodes(rt: &HostRuntime, intake: &Intake<'_>) -> anyhow::Result<Vec<u32>> {
-    let mut nodes = Vec::new(rt.alloc());
-    for n in 0..=intake.top() {
-        if intake.is_frozen(n) {
-            nodes.push(n)?;
-        }
-    }
-    Ok(nodes)
+fn frozen_nodes(rt: &HostRuntime, intake: &Intake<'_>) -> Result<Vec<u32>, AllocError> {
+    (0..=intake.top())
+        .filter(|node| intake.is_frozen(*node))
+        .collect(rt.alloc())
 }
 
 // Prints the counts of an intake, its frozen and its loose nodes, and the clauses of every node that has some.
@@ -72,10 +68,10 @@ pub fn print_network(rt: &HostRuntime, intake: &Intake<'_>) -> anyhow::Result<()
     println!(rt; "clauses {count}")?;
     print_nodes(rt, "frozen", frozen_nodes(rt, intake)?.as_slice())?;
     print_nodes(rt, "loose", intake.loose_nodes(rt.alloc())?.as_slice())?;
-    for k in 0..top {
-        let run = intake.run(k + 1);
-        if !run.is_empty() {
-            print_node(rt, run, k + 1)?;
+    for node in 1..=top {
+        let run = intake.run(node);
+        if !run.words.is_empty() {
+            print_node(rt, run)?;
         }
     }
     Ok(())

@@ -1,6 +1,13 @@
 -- The network of an accepted image, and its loose nodes. Assumes nothing.
-use Rattle.std.proofs.Common.{◌≡◌, ℕ, zero, suc, ◌+◌, ◌-◌, ◌<◌, ◌≤◌, Bool, true, false, cond, not, ◌&&◌, ◌||◌, List, [], ◌∷◌, ◌++◌, get_or, Some, Ok, sym, refl, ap, ◌∙◌, subst, inl, inr, ⊎_elim, add-one, arith}
+use Rattle.std.proofs.Common.{◌≡◌, ℕ, zero, suc, ◌+◌, ◌-◌, ◌<◌, ◌≤◌, Bool, true, false, cond, not, ◌&&◌, ◌||◌, List, [], ◌∷◌, ◌++◌, length, get_or, Some, None, Option, Ok, sym, refl, ap, ◌∙◌, subst, inl, inr, ⊎_elim, add-one, arith}
 use Rattle.std.proofs.lemmas.Bool.{cond-true, cond-false, cond_both, cases_Bool, cases_lt, and_from, both_ways}
+use Rattle.std.proofs.lemmas.Iterator.{YieldsList}
+use Rattle.std.proofs.lemmas.Iterator.Consumers.{YieldsList-from_shown}
+use Rattle.std.proofs.lemmas.List.{map-id}
+use Rattle.std.proofs.lemmas.List.FromFn.{length-range_with_len, filter_of_map_range_with_len_more}
+use Rattle.std.specs.List.{filter, find, range_with_len}
+use Rattle.std.specs.Range.{range_inclusive_start, range_inclusive_end, range_inclusive_exhausted, range_inclusive_left, range_inclusive_len, range_inclusive_steps}
+use Rattle.std.specs.declared.ops.RangeInclusive.{RangeInclusive}
 use Rattle.network.specs.Assignments.{Assignment, lit, put, sat}
 use Rattle.network.specs.Clauses.{owner, Ordered, Rising}
 use Rattle.network.specs.Levels.{Total, Unique}
@@ -83,6 +90,51 @@ module _ (ws : List ℕ) (i : Image ws) (k : ℕ) (l : k < top ws) where
   loose_only : Loose (suc k) (clauses (run ws (suc k))) → loose_at ws (suc k) ≡ true
   loose_only (σ, z, h) = ⊎_elim (λ (t : loose_at ws (suc k) ≡ true). t) (λ (f : loose_at ws (suc k) ≡ false). absurd (tight_at f σ z (h false) (h true))) (cases_Bool (loose_at ws (suc k)))
 
+-- one number more
+filter_more : (p : ℕ → Bool) (m : ℕ) → filter p (range_with_len 1 (suc m)) ≡ filter p (range_with_len 1 m) ++ cond (p (suc m)) (suc m ∷ []) []
+filter_more p m =
+    ap (λ (n : ℕ). filter p (range_with_len 1 n)) (sym (add-one m)) ∙ ap (filter p) (sym (map-id (range_with_len 1 (m + 1)))) ∙ filter_of_map_range_with_len_more p (λ x. x) 1 m (suc m) (omega arith)
+    ∙ ap (λ (xs : List ℕ). filter p xs ++ cond (p (suc m)) (suc m ∷ []) []) (map-id (range_with_len 1 m))
+
+-- what `find` finds is the first that `filter` keeps
+pub find_first : (p : ℕ → Bool) (xs : List ℕ) → find p xs ≡ first_of (filter p xs)
+find_first p [] = refl
+find_first p (x ∷ xs) = go (p x) (find_first p xs)
+  where
+    go : (b : Bool) → find p xs ≡ first_of (filter p xs) → cond b (Some x) (find p xs) ≡ first_of (cond b (x ∷ filter p xs) (filter p xs))
+    go true h = refl
+    go false h = h
+
+-- the numbers that `1..=m` gives
+abbrev pub inclusive_steps : RangeInclusive ℕ → Option ℕ → RangeInclusive ℕ → Type 0
+inclusive_steps = range_inclusive_steps (λ x y. y - x) (λ x y. y ≡ x + 1)
+
+abbrev inclusive_rest : RangeInclusive ℕ → List ℕ
+inclusive_rest s = range_with_len (range_inclusive_start s) (range_inclusive_left (λ x y. y - x) s)
+
+pub up_to : (s : RangeInclusive ℕ) (m : ℕ) → range_inclusive_start s ≡ 1 → range_inclusive_end s ≡ m → range_inclusive_exhausted s ≡ false → YieldsList inclusive_steps (λ x. x) s (range_with_len 1 m)
+up_to s m a b c = subst (YieldsList inclusive_steps (λ x. x) s) all (YieldsList-from_shown inclusive_steps (λ x. x) inclusive_rest ended came s)
+  where
+    left : range_inclusive_left (λ x y. y - x) s ≡ m
+    left = omega (arith, a, b, ap (range_inclusive_len (λ x y. y - x) (range_inclusive_start s) (range_inclusive_end s)) c)
+
+    all : inclusive_rest s ≡ range_with_len 1 m
+    all = ap (range_with_len (range_inclusive_start s)) left ∙ ap (λ (i : ℕ). range_with_len i m) a
+
+    ended : (s t : RangeInclusive ℕ) → inclusive_steps s None t → length (inclusive_rest s) ≡ 0
+    ended s t h = length-range_with_len _ _ ∙ h.1.0
+
+    came : (s : RangeInclusive ℕ) (x : ℕ) (t : RangeInclusive ℕ) → inclusive_steps s (Some x) t → inclusive_rest s ≡ x ∷ inclusive_rest t
+    came s x t h =
+        let n : range_inclusive_left (λ x y. y - x) s ≡ suc (range_inclusive_left (λ x y. y - x) t) = omega (arith, h.1.1) in
+        ap (range_with_len (range_inclusive_start s)) n ∙ ap (λ (ys : List ℕ). range_inclusive_start s ∷ ys) (tail (range_inclusive_exhausted t) refl) ∙ ap (λ (y : ℕ). y ∷ inclusive_rest t) (sym h.1.0)
+      where
+        tail : (b : Bool) → range_inclusive_exhausted t ≡ b → range_with_len (range_inclusive_start s + 1) (range_inclusive_left (λ x y. y - x) t) ≡ inclusive_rest t
+        tail true e =
+            let z : range_inclusive_left (λ x y. y - x) t ≡ 0 = ap (range_inclusive_len (λ x y. y - x) (range_inclusive_start t) (range_inclusive_end t)) e in
+            ap (range_with_len (range_inclusive_start s + 1)) z ∙ sym (ap (range_with_len (range_inclusive_start t)) z)
+        tail false e = ap (λ (i : ℕ). range_with_len i (range_inclusive_left (λ x y. y - x) t)) (sym (h.1.2 e))
+
 -- the list of loose nodes, node by node
 module _ (ws : List ℕ) (fs : List Bool) where
   -- node n is loose and not frozen
@@ -97,34 +149,10 @@ module _ (ws : List ℕ) (fs : List Bool) where
   unfolding loose_nodes
   loose_more k = refl
 
-  pub loose_yes : (k : ℕ) → counts (k + 1) ≡ true → loose_nodes ws fs (k + 1) ≡ loose_nodes ws fs k ++ ((k + 1) ∷ [])
-  loose_yes k t =
-      let u : counts (suc k) ≡ true = ap counts (sym (add-one k)) ∙ t in
-      ap (loose_nodes ws fs) (add-one k) ∙ loose_more k ∙ ap (λ (xs : List ℕ). loose_nodes ws fs k ++ xs) (cond-true _ _ _ u ∙ ap (λ (n : ℕ). n ∷ []) (sym (add-one k)))
-
-  pub loose_no : (k : ℕ) → counts (k + 1) ≡ false → loose_nodes ws fs (k + 1) ≡ loose_nodes ws fs k
-  loose_no k f =
-      let u : counts (suc k) ≡ false = ap counts (sym (add-one k)) ∙ f in
-      ap (loose_nodes ws fs) (add-one k) ∙ loose_more k ∙ ap (λ (xs : List ℕ). loose_nodes ws fs k ++ xs) (cond-false _ _ _ u) ∙ append_nil (loose_nodes ws fs k)
-    where
-      append_nil : (xs : List ℕ) → xs ++ [] ≡ xs
-      append_nil [] = refl
-      append_nil (x ∷ xs) = ap (λ (ys : List ℕ). x ∷ ys) (append_nil xs)
-
-  -- the first stays the first
-  first_stays : (n d k m : ℕ) → d + k ≡ m → first_of (loose_nodes ws fs k) ≡ Some n → first_of (loose_nodes ws fs m) ≡ Some n
-  first_stays n zero k m i h = let j : m ≡ k = omega arith in ap (λ (x : ℕ). first_of (loose_nodes ws fs x)) j ∙ h
-  first_stays n (suc d) k m i h = first_stays n d (suc k) m (omega arith) (ap first_of (loose_more k) ∙ more (loose_nodes ws fs k) (cond (counts (suc k)) (suc k ∷ []) []) h)
-    where
-      more : (xs ys : List ℕ) → first_of xs ≡ Some n → first_of (xs ++ ys) ≡ Some n
-      more [] ys e = absurd (let z : ◌≡◌ {A = ℕ} 0 1 = cc in omega arith)
-      more (x ∷ xs) ys e = e
-
-  pub first_here : (k m : ℕ) → k < m → loose_nodes ws fs k ≡ [] → counts (k + 1) ≡ true → Some (k + 1) ≡ first_of (loose_nodes ws fs m)
-  first_here k m l e t =
-      let s : first_of (loose_nodes ws fs (k + 1)) ≡ Some (k + 1) = ap first_of (loose_yes k t ∙ ap (λ (xs : List ℕ). xs ++ ((k + 1) ∷ [])) e) in
-      let p = add-one k in
-      sym (first_stays (k + 1) (m - (k + 1)) (k + 1) m (omega arith) s)
+  -- the numbers up to m that pass the test
+  pub loose_are : (m : ℕ) → loose_nodes ws fs m ≡ filter counts (range_with_len 1 m)
+  loose_are zero = loose_none
+  loose_are (suc m) = loose_more m ∙ ap (λ (xs : List ℕ). xs ++ cond (counts (suc m)) (suc m ∷ []) []) (loose_are m) ∙ sym (filter_more counts m)
 
   -- membership
   in_loose : (m k : ℕ) → k < m → counts (suc k) ≡ true → In (suc k) (loose_nodes ws fs m)

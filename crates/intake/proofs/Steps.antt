@@ -1,5 +1,5 @@
 -- What take-in answers, step by step. Assumes nothing.
-use Rattle.std.proofs.Common.{◌≡◌, ℕ, zero, suc, ◌+◌, ◌-◌, ◌<◌, ◌≤◌, Bool, true, false, cond, eqb, List, [], ◌∷◌, length, drop, Ok, Err, Result, sym, refl, ap, ◌∙◌, subst, ⊎_elim, add-one, arith, length-drop}
+use Rattle.std.proofs.Common.{◌≡◌, ℕ, zero, suc, ◌+◌, ◌-◌, ◌<◌, ◌≤◌, Bool, true, false, cond, eqb, List, [], ◌∷◌, length, drop, Ok, Err, Result, sym, refl, ap, ◌∙◌, subst, ⊎_elim, arith, length-drop}
 use Rattle.std.specs.List.{list_all}
 use Rattle.std.proofs.lemmas.List.{length-take}
 use Rattle.std.proofs.lemmas.Bool.{cases_lt, eqb-true, le-leb, lt-leb, eq-eqb, ne_eqb, cond-true, cond-false, cases_eq}
@@ -152,19 +152,19 @@ Counting ws k c = (nodes_answer ws k ≡ Ok c) × (c ≤ offset ws k)
 run_length : (ws : List ℕ) (k : ℕ) → k < top ws → length (run ws (suc k)) ≤ offset ws (suc k) - offset ws k
 run_length ws k l = omega (arith, ap length (run_is ws k l), length-take (offset ws (suc k) - offset ws k) (drop (offset ws k) ws))
 
-pub counting_on : (ws : List ℕ) (k c d : ℕ) → Head ws → k < top ws → Counting ws k c → Ok d ≡ node_answer (k + 1) (run ws (suc k)) → Counting ws (k + 1) (c + d) × (c + d ≤ length ws)
+pub counting_on : (ws : List ℕ) (k c d : ℕ) → Head ws → k < top ws → Counting ws k c → Ok d ≡ node_answer (suc k) (run ws (suc k)) → Counting ws (suc k) (c + d) × (c + d ≤ length ws)
 counting_on ws k c d h l (p, q) e =
-    let e1 : node_answer (suc k) (run ws (suc k)) ≡ Ok d = ap (λ (j : ℕ). node_answer j (run ws (suc k))) (sym (add-one k)) ∙ sym e in
-    let n = node_parts (suc k) (run ws (suc k)) d e1 in
+    let n = node_parts (suc k) (run ws (suc k)) d (sym e) in
     let w = run_within ws k h l in
-    let i : offset ws (k + 1) ≡ offset ws (suc k) = ap (offset ws) (add-one k) in
     let b : c + d ≤ offset ws (suc k) = omega (arith, n.count, clauses_short (run ws (suc k)), run_length ws k l, w.0, offset_more ws k, q) in
-    ((ap (nodes_answer ws) (add-one k) ∙ nodes_on ws k c d p e1, omega (arith, i, b)), omega (arith, b, w.1, offset_more ws k))
+    ((nodes_on ws k c d p (sym e), b), omega (arith, b, w.1, offset_more ws k))
 
-pub counting_stop : (ws : List ℕ) (k c m : ℕ) (e : Fault) → k < m → Counting ws k c → Err e ≡ node_answer (k + 1) (run ws (suc k)) → Err e ≡ nodes_answer ws m
-counting_stop ws k c m e l (p, q) h =
-    let e1 : node_answer (suc k) (run ws (suc k)) ≡ Err e = ap (λ (j : ℕ). node_answer j (run ws (suc k))) (sym (add-one k)) ∙ sym h in
-    sym (nodes_stay ws e (m - suc k) (suc k) m (omega arith) (nodes_stop ws k c e p e1))
+pub counting_stop : (ws : List ℕ) (k c m : ℕ) (e : Fault) → k < m → Counting ws k c → Err e ≡ node_answer (suc k) (run ws (suc k)) → Err e ≡ nodes_answer ws m
+counting_stop ws k c m e l (p, q) h = sym (nodes_stay ws e (m - suc k) (suc k) m (omega arith) (nodes_stop ws k c e p (sym h)))
+
+-- the answer at the run of node k + 1
+pub node_here : (ws xs : List ℕ) (n m k : ℕ) → xs ≡ run ws n → m ≡ n → n ≡ suc k → node_answer m xs ≡ node_answer (suc k) (run ws (suc k))
+node_here ws xs n m k a b e = ap (node_answer m) (a ∙ ap (run ws) e) ∙ ap (λ (z : ℕ). node_answer z (run ws (suc k))) (b ∙ e)
 
 -- the whole image
 pub record ImagePassed (ws : List ℕ) : Type 0 where

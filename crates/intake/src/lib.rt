@@ -11,3 +11,4 @@ mod row;
 mod search;
 pub mod state;
 pub mod taken;
+mod whole;

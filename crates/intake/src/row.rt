@@ -2,40 +2,47 @@ ghost use Rattle.network.specs.Assignments.{holds, lit, put};
 ghost use Rattle.network.specs.Rows.{row as row_of};
 ghost use Rattle.std.specs.Prelude.{◌≡◌};
 
-// The value that a row of the nodes `low` gives a node.
-fn value_in(low: &[u32], row: u32, node: u32) -> bool
-    ensures { result ≡ row_of low.now row node }
-{
-    let mut digits = row;
-    for x in low {
-        if node == *x {
-            return digits % 2 == 1;
-        }
-        digits /= 2;
-    }
-    false
+// A row of the lower nodes `low`, by its number, with a value of the node above them.
+#[derive(Clone, Copy)]
+pub(crate) struct Row<'l> {
+    pub(crate) low: &'l [u32],
+    pub(crate) number: u32,
+    pub(crate) node: u32,
+    pub(crate) value: bool,
 }
 
-// Whether a literal is true in a row that has `value` for `node`.
-fn literal_in(low: &[u32], row: u32, node: u32, value: bool, literal: u32) -> bool
-    ensures { result ≡ lit (put (row_of low.now row) node value) literal }
-{
-    let v = if literal / 2 == node {
-        value
-    } else {
-        value_in(low, row, literal / 2)
-    };
-    if literal % 2 == 0 { v } else { !v }
-}
-
-// Whether a clause holds in a row that has `value` for `node`.
-pub(crate) fn holds_in(low: &[u32], row: u32, node: u32, value: bool, clause: &[u32]) -> bool
-    ensures { result ≡ holds (put (row_of low.now row) node value) clause.now }
-{
-    for l in clause {
-        if literal_in(low, row, node, value, *l) {
-            return true;
+impl Row<'_> {
+    // The value that the row gives a lower node.
+    fn lower(self, node: u32) -> bool
+        ensures { result ≡ row_of self.entry.low.now self.entry.number node }
+    {
+        let mut digits = self.number;
+        for x in self.low {
+            if node == *x {
+                return digits % 2 == 1;
+            }
+            digits /= 2;
         }
+        false
     }
-    false
+
+    // Whether a literal is true.
+    fn literal(self, literal: u32) -> bool
+        ensures { result ≡ lit (put (row_of self.entry.low.now self.entry.number) self.entry.node self.entry.value) literal }
+    {
+        let node = literal / 2;
+        let value = if node == self.node {
+            self.value
+        } else {
+            self.lower(node)
+        };
+        value == (literal % 2 == 0)
+    }
+
+    // Whether a clause holds.
+    pub(crate) fn holds(self, clause: &[u32]) -> bool
+        ensures { result ≡ holds (put (row_of self.entry.low.now self.entry.number) self.entry.node self.entry.value) clause.now }
+    {
+        clause.iter().any(|l| self.literal(*l))
+    }
 }

@@ -1,39 +1,48 @@
-ghost use Rattle.std.specs.Prelude.{◌≡◌, ◌≤◌, true, length};
-ghost use Rattle.image.specs.Runs.{clauses, whole};
+ghost use Rattle.image.specs.Runs.{clauses};
 ghost use Rattle.intake.specs.Answers.{searched};
+ghost use Rattle.std.specs.Prelude.{◌≡◌, ◌≤◌, length};
 
-use crate::row::holds_in;
-use image::fault::{CLASH, Fault};
-use image::reader::next_clause;
+use crate::row::Row;
+use crate::whole::WholeRun;
+use image::fault::{Fault, Refusal};
 
-// Whether a row of the lower nodes allows a node both values, unless one allows none: the search ends at the first such row.
-pub(crate) fn search_rows(run: &[u32], low: &[u32], node: u32) -> Result<bool, Fault>
-    requires whole { whole run.now ≡ true }
+// Whether a row of the lower nodes allows the node of a run both values, unless one allows none: the search ends at the first
+// such row.
+pub(crate) fn search_rows(run: WholeRun<'_>, low: &[u32]) -> Result<bool, Fault>
     requires few { length low.now ≤ 8 }
-    ensures { result ≡ searched low.now node (clauses run.now) }
+    ensures { result ≡ searched low.now run.entry.run.node (clauses run.entry.run.words.now) }
 {
+    let node = run.run.node;
     let mut loose = false;
     let mut clash = false;
-    'rows: for row in 0..(1u32 << low.len()) {
+    'rows: for number in 0..(1u32 << low.len()) {
+        let without = Row {
+            low,
+            number,
+            node,
+            value: false,
+        };
+        let with = Row {
+            low,
+            number,
+            node,
+            value: true,
+        };
         let mut off = true;
         let mut on = true;
-        let mut left = run;
-        while let Some((clause, after)) = next_clause(left, node)? {
-            off = off && holds_in(low, row, node, false, clause);
-            on = on && holds_in(low, row, node, true, clause);
+        for clause in run.run.clauses() {
+            let clause = clause?;
+            off = off && without.holds(clause);
+            on = on && with.holds(clause);
             if !off && !on {
                 clash = true;
                 break 'rows;
             }
-            left = after;
         }
         loose = loose || (off && on);
     }
     if clash {
-        return Err(Fault {
-            number: CLASH,
-            place: node,
-        });
+        return Err(Refusal::Clash.at(node));
     }
     Ok(loose)
 }

@@ -4,10 +4,12 @@ ghost use Rattle.image.specs.declared.fault.Fault.{Fault as FaultT};
 ghost use Rattle.intake.specs.Accepted.{Answers as Means, total};
 ghost use Rattle.intake.specs.Answers.{first_of, froze_answer, loose_at, loose_nodes, only_zero, smallest, take_in_answer};
 
-use crate::check::{check_image, has_both};
+use crate::check::check_image;
 use crate::state::Intake;
-use image::fault::{Fault, STRANGER};
+use crate::whole::WholeRun;
+use image::fault::{Fault, Refusal};
 use image::header::run_of;
+use image::reader::Run;
 use std::alloc::{AllocError, Global};
 
 impl<'i> Intake<'i> {
@@ -32,11 +34,22 @@ impl<'i> Intake<'i> {
         self.image[0]
     }
 
-    // The words of a node; none for node 0 and past the highest node.
-    pub fn run(&self, node: u32) -> &'i [u32]
-        ensures { result.now ≡ run_of self.now.image.now node }
+    // The run of a node; no words for node 0 and past the highest node.
+    pub fn run(&self, node: u32) -> Run<'i>
+        ensures words { result.words.now ≡ run_of self.now.image.now node }
+        ensures node { result.node ≡ node }
     {
         run_of(self.image, node)
+    }
+
+    // The same run, which take-in found to be cut into clauses without a rest.
+    fn whole_run(&self, node: u32) -> WholeRun<'i>
+        ensures words { result.run.words.now ≡ run_of self.now.image.now node }
+        ensures node { result.run.node ≡ node }
+    {
+        WholeRun {
+            run: self.run(node),
+        }
     }
 
     // The number of clauses besides node 0's.
@@ -50,7 +63,7 @@ impl<'i> Intake<'i> {
     pub fn is_frozen(&self, node: u32) -> bool
         ensures { result ≡ slice_index_or self.now.frozen node false }
     {
-        (node as usize) < 1024 && self.frozen[node as usize]
+        self.frozen.get(node as usize).is_some_and(|frozen| *frozen)
     }
 
     // Freezes a node; refused above the highest. A node may be frozen again, and node 0 always is.
@@ -59,10 +72,7 @@ impl<'i> Intake<'i> {
         ensures state { elim result [ Ok _ ↦ (self.new.image ≡ self.old.image) × (self.new.frozen ≡ slice_set self.old.frozen node true) | Err f ↦ self.new ≡ self.old ] }
     {
         if node > self.top() {
-            return Err(Fault {
-                number: STRANGER,
-                place: node,
-            });
+            return Err(Refusal::Stranger.at(node));
         }
         self.frozen[node as usize] = true;
         Ok(())
@@ -72,32 +82,23 @@ impl<'i> Intake<'i> {
     pub fn is_loose(&self, node: u32) -> bool
         ensures { result ≡ (not (slice_index_or self.now.frozen node false) && loose_at self.now.image.now node) }
     {
-        !self.is_frozen(node) && has_both(self.run(node), node)
+        !self.is_frozen(node) && self.whole_run(node).has_both()
     }
 
     // The lowest node that is loose.
     pub fn loose(&self) -> Option<u32>
         ensures { result ≡ first_of (loose_nodes self.now.image.now self.now.frozen (top_of self.now.image.now)) }
     {
-        for k in 0..self.top() {
-            if self.is_loose(k + 1) {
-                return Some(k + 1);
-            }
-        }
-        None
+        (1..=self.top()).find(|node| self.is_loose(*node))
     }
 
     // All loose nodes, rising.
     pub fn loose_nodes(&self, heap: Global) -> Result<Vec<u32>, AllocError>
         ensures { IfOk result (λ v. v.items ≡ loose_nodes self.now.image.now self.now.frozen (top_of self.now.image.now)) }
     {
-        let mut nodes = Vec::new(heap);
-        for k in 0..self.top() {
-            if self.is_loose(k + 1) {
-                nodes.push(k + 1)?;
-            }
-        }
-        Ok(nodes)
+        (1..=self.top())
+            .filter(|node| self.is_loose(*node))
+            .collect(heap)
     }
 }
 

@@ -12,18 +12,10 @@ mod tests {
     use std::alloc::{AllocError, Global};
     use std::test::Fail;
 
-    const NONE: Fault = Fault {
-        number: 0,
-        place: 0,
-    };
-
-    // The refusal of an image, or number 0.
-    fn refusal(words: &[u32]) -> Fault {
+    // What take-in answers of an image.
+    fn taken(words: &[u32]) -> Result<(), Fault> {
         let mut intake = Intake::smallest();
-        match take_in(words, &mut intake) {
-            Ok(()) => NONE,
-            Err(fault) => fault,
-        }
+        take_in(words, &mut intake)
     }
 
     fn at(number: u32, place: u32) -> Fault {
@@ -53,67 +45,73 @@ mod tests {
         Ok(words)
     }
 
-    // Images, each with the number and the place of its refusal; number 0 where it is opened.
-    const CASES: [(&[u32], u32, u32); 23] = [
-        (&[0, 0, 3], 0, 0),
-        (&[], 1, 0),
-        (&[0, 0], 1, 0),
+    // Images, each with what take-in answers: a refusal by its number and place.
+    const CASES: [(&[u32], Result<(), (u32, u32)>); 23] = [
+        (&[0, 0, 3], Ok(())),
+        (&[], Err((1, 0))),
+        (&[0, 0], Err((1, 0))),
         // an offset is missing
-        (&[1, 0, 4], 1, 0),
+        (&[1, 0, 4], Err((1, 0))),
         // the first offset, the last one, falling ones
-        (&[0, 0, 4], 1, 0),
-        (&[0, 0, 3, 0], 1, 0),
-        (&[2, 0, 5, 6, 5, 0], 1, 0),
+        (&[0, 0, 4], Err((1, 0))),
+        (&[0, 0, 3, 0], Err((1, 0))),
+        (&[2, 0, 5, 6, 5, 0], Err((1, 0))),
         // a highest node at which a sum of words would wrap
-        (&[4294967295, 0, 2], 1, 0),
+        (&[4294967295, 0, 2], Err((1, 0))),
         // lengths: 0, past the end, far past the end
-        (&[1, 1, 4, 5, 0], 2, 1),
-        (&[1, 1, 4, 6, 2, 2], 2, 1),
-        (&[1, 1, 4, 6, 4294967295, 2], 2, 1),
+        (&[1, 1, 4, 5, 0], Err((2, 1))),
+        (&[1, 1, 4, 6, 2, 2], Err((2, 1))),
+        (&[1, 1, 4, 6, 4294967295, 2], Err((2, 1))),
         // falling literals, a node twice
-        (&[2, 1, 5, 5, 8, 2, 4, 2], 3, 2),
-        (&[1, 1, 4, 7, 2, 2, 3], 3, 1),
+        (&[2, 1, 5, 5, 8, 2, 4, 2], Err((3, 2))),
+        (&[1, 1, 4, 7, 2, 2, 3], Err((3, 1))),
         // a clause of a higher and of a lower node
-        (&[1, 1, 4, 6, 1, 4], 4, 1),
-        (&[1, 1, 4, 6, 1, 0], 4, 1),
+        (&[1, 1, 4, 6, 1, 4], Err((4, 1))),
+        (&[1, 1, 4, 6, 1, 0], Err((4, 1))),
         // the number of clauses, right and wrong by one
-        (&[1, 1, 4, 6, 1, 2], 0, 0),
-        (&[1, 2, 4, 6, 1, 2], 7, 0),
-        (&[1, 0, 4, 6, 1, 2], 7, 0),
+        (&[1, 1, 4, 6, 1, 2], Ok(())),
+        (&[1, 2, 4, 6, 1, 2], Err((7, 0))),
+        (&[1, 0, 4, 6, 1, 2], Err((7, 0))),
         // literal 0 is false, literal 1 is true
-        (&[1, 2, 4, 9, 2, 0, 2, 1, 3], 6, 1),
-        (&[1, 2, 4, 9, 2, 1, 2, 1, 3], 0, 0),
+        (&[1, 2, 4, 9, 2, 0, 2, 1, 3], Err((6, 1))),
+        (&[1, 2, 4, 9, 2, 1, 2, 1, 3], Ok(())),
         // a row without a value, and none such
-        (&[2, 2, 5, 5, 11, 2, 2, 4, 2, 2, 5], 6, 2),
-        (&[2, 2, 5, 5, 11, 2, 2, 4, 2, 3, 4], 0, 0),
+        (&[2, 2, 5, 5, 11, 2, 2, 4, 2, 2, 5], Err((6, 2))),
+        (&[2, 2, 5, 5, 11, 2, 2, 4, 2, 3, 4], Ok(())),
         // the faults of a lower node come first: node 1 clashes, node 2 is cut
-        (&[2, 3, 5, 9, 11, 1, 2, 1, 3, 2, 4], 6, 1),
+        (&[2, 3, 5, 9, 11, 1, 2, 1, 3, 2, 4], Err((6, 1))),
     ];
 
     #[test]
     fn images(rt: HostRuntime) {
-        for (words, number, place) in CASES {
-            assert_eq!(rt; refusal(words), at(number, place));
+        for (words, answer) in CASES {
+            assert_eq!(rt;
+                taken(words),
+                answer.map_err(|(number, place)| at(number, place))
+            );
         }
     }
 
     #[test]
     fn most_nodes(rt: HostRuntime) -> Result<(), Fail> {
-        assert_eq!(rt; refusal(empty_runs(rt.alloc(), 1023)?.as_slice()), NONE);
-        assert_eq!(rt; refusal(empty_runs(rt.alloc(), 1024)?.as_slice()), at(1, 0));
+        assert_eq!(rt; taken(empty_runs(rt.alloc(), 1023)?.as_slice()), Ok(()));
+        assert_eq!(rt;
+            taken(empty_runs(rt.alloc(), 1024)?.as_slice()),
+            Err(at(1, 0))
+        );
         Ok(())
     }
 
     #[test]
     fn wide(rt: HostRuntime) -> Result<(), Fail> {
         assert_eq!(rt;
-            refusal(one_wide(rt.alloc(), 9)?.as_slice()),
-            NONE,
+            taken(one_wide(rt.alloc(), 9)?.as_slice()),
+            Ok(()),
             "eight lower nodes"
         );
         assert_eq!(rt;
-            refusal(one_wide(rt.alloc(), 10)?.as_slice()),
-            at(5, 10),
+            taken(one_wide(rt.alloc(), 10)?.as_slice()),
+            Err(at(5, 10)),
             "nine lower nodes"
         );
         Ok(())

@@ -9,11 +9,9 @@ use std::io::{BufRead, BufReader};
 
 // The words of a line.
 fn words_of(heap: Global, line: &str) -> anyhow::Result<Vec<u32>> {
-    let mut words = Vec::new(heap);
-    for number in line.split_whitespace() {
-        words.push(number.parse::<u32>()?)?;
-    }
-    Ok(words)
+    line.split_whitespace()
+        .map(|number| Ok(number.parse::<u32>()?))
+        .try_collect(heap)
 }
 
 // Opens one input, and prints what came of it.

@@ -1,7 +1,7 @@
 ghost use Rattle.std.specs.Prelude.{◌≡◌, ℕ, ◌+◌, ◌*◌, ◌%◌, ◌<◌, ◌≤◌};
 ghost use Rattle.store.specs.Checks.{checked};
 
-use image::fault::{Fault, ROOM, SHORT};
+use image::fault::{Fault, Refusal};
 
 // The largest room that a store can have.
 pub const MOST: u32 = 4096;
@@ -11,17 +11,11 @@ pub fn check_words(each: u16, fixed: u16, room: u32, words: usize) -> Result<(),
     ensures { result ≡ checked each fixed room words }
 {
     if room < 2 || room > MOST || room % 2 != 0 {
-        return Err(Fault {
-            number: ROOM,
-            place: room,
-        });
+        return Err(Refusal::Room.at(room));
     }
     let need = each as u32 * room + fixed as u32;
     if words < need as usize {
-        return Err(Fault {
-            number: SHORT,
-            place: need,
-        });
+        return Err(Refusal::Short.at(need));
     }
     Ok(())
 }

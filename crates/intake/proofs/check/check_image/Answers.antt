@@ -30,7 +30,7 @@ pub bounds-words-1 : goal.bounds-words-1
 bounds-words-1 c = let p = head_came c.args.words.now _ c.in_ok-top.ensures in let h = head_from _ p.0 in omega (arith, h.three)
 
 pub returns-then-words-count : goal.returns-then-words-count
-returns-then-words-count c = answered _ _ (answer_count c.args.words.now _ _ c.in_ok-top.ensures c.in_ok-count.ensures c.if-words-count.true)
+returns-then-words-count c = answered _ _ (ap Err c.at.ensures ∙ answer_count c.args.words.now _ _ c.in_ok-top.ensures c.in_ok-count.ensures c.if-words-count.true)
 
 pub returns : goal.returns
 returns c = answered _ _ (answer_open c.args.words.now _ _ c.in_ok-top.ensures c.in_ok-count.ensures c.if-words-count.false)

@@ -1,5 +1,6 @@
+use Rattle.std.proofs.Common.{◌≡◌, ℕ, suc, ◌≤◌}
 use Rattle.intake.proofs.Steps.{Counting}
 use Rattle.intake.proofs.check.check_nodes.Given as goal
 
-abbrev pub invariant-loop-k : goal.invariant-loop-k
-invariant-loop-k l = Counting l.words l.k l.count
+abbrev pub invariant-loop-node : goal.invariant-loop-node
+invariant-loop-node l = (k : ℕ) × (l.node ≡ suc k) × (k ≤ l.top) × Counting l.words k l.count

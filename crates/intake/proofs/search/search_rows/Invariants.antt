@@ -1,17 +1,18 @@
-use Rattle.std.proofs.Common.{◌≡◌, true, false, ◌||◌, length}
+use Rattle.std.proofs.Common.{◌≡◌, true, false, ◌||◌}
 use Rattle.network.specs.Assignments.{put}
-use Rattle.image.specs.Runs.{whole, clauses}
-use Rattle.network.specs.Rows.{row, no_value, two_values, some_row}
-use Rattle.intake.proofs.Searching.{SoFar}
+use Rattle.image.specs.Runs.{left_of, whole}
+use Rattle.network.specs.Rows.{row}
+use Rattle.intake.proofs.Searching.{SoFar, RowsPassed}
 use Rattle.intake.proofs.search.search_rows.Given as goal
 
 abbrev pub invariant-loop-clause : goal.invariant-loop-clause
 invariant-loop-clause l =
-    (l.clash ≡ false) × (whole l.left ≡ true) × (SoFar (put (row l.low l.row) l.node false) l.run l.left l.off) × (SoFar (put (row l.low l.row) l.node true) l.run l.left l.on) × ((l.off || l.on) ≡ true)
-
-abbrev pub decreases-loop-clause : goal.decreases-loop-clause
-decreases-loop-clause l = length l.left
+    (goal.iterator-loop-clause).can_next l.clause-iterator × (goal.iterator-loop-clause).is_finite l.clause-iterator
+    × (l.clash ≡ false)
+    × (whole (left_of l.clause-iterator) ≡ true)
+    × (SoFar (put (row l.low l.number) l.run.run.node false) l.run.run.words.now (left_of l.clause-iterator) l.off)
+    × (SoFar (put (row l.low l.number) l.run.run.node true) l.run.run.words.now (left_of l.clause-iterator) l.on)
+    × ((l.off || l.on) ≡ true)
 
 abbrev pub invariant-rows : goal.invariant-rows
-invariant-rows l =
-    (l.clash ≡ false) × (some_row (no_value l.low l.node (clauses l.run)) l.row ≡ false) × (l.loose ≡ some_row (two_values l.low l.node (clauses l.run)) l.row)
+invariant-rows l = (l.clash ≡ false) × RowsPassed l.low l.run.run.node l.run.run.words.now l.number l.loose

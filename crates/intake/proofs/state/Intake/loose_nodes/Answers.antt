@@ -1,23 +1,11 @@
-use Rattle.std.proofs.Common.{◌≡◌, ◌+◌, [], ◌∷◌, ◌++◌, vec_items, sym, ap, ◌∙◌, arith}
+use Rattle.std.proofs.Common.{◌∙◌, rules}
+use Rattle.std.proofs.lemmas.Iterator.{items_from_collect}
+use Rattle.std.proofs.lemmas.Iterator.Consumers.{YieldsList-at, YieldsList-from_filter}
 use Rattle.image.specs.Headers.{top}
-use Rattle.intake.specs.Answers.{loose_nodes}
-use Rattle.intake.proofs.LooseNodes.{loose_none, loose_yes, loose_no}
+use Rattle.intake.proofs.LooseNodes.{counts, loose_are, up_to}
 use Rattle.intake.proofs.state.Intake.loose_nodes.Goals as goal
-use Rattle.intake.proofs.state.Intake.loose_nodes.Goals.{then-is_loose+in_ok-push, else-is_loose}
-
-pub loop-k-init : goal.loop-k-init
-loop-k-init c = c.new-nodes.ensures.items ∙ sym (loose_none _ _)
-
-pub loop-k-preserved : goal.loop-k-preserved
-loop-k-preserved c =
-    elim c.if-is_loose.branch [
-      | then-is_loose+in_ok-push w ↦
-          ap vec_items w.nodes-is ∙ w.in_ok-push.ensures.items ∙ ap (λ xs. xs ++ ((c.loop-k.k + 1) ∷ [])) c.loop-k.invariant
-          ∙ sym (loose_yes c.args.self.now.image.now c.args.self.now.frozen c.loop-k.k (sym c.is_loose.ensures ∙ w.if-is_loose.true))
-      | else-is_loose w ↦ ap vec_items w.nodes-is ∙ c.loop-k.invariant ∙ sym (loose_no c.args.self.now.image.now c.args.self.now.frozen c.loop-k.k (sym c.is_loose.ensures ∙ w.if-is_loose.false))
-    ]
 
 pub returns : goal.returns
 returns c =
-    let e : c.loop-k.k ≡ top c.args.self.now.image.now = omega (arith, c.top-k-end.ensures.answer) in
-    c.loop-k.invariant ∙ ap (loose_nodes c.args.self.now.image.now c.args.self.now.frozen) e
+    rw (loose_are c.args.self.now.image.now c.args.self.now.frozen (top c.args.self.now.image.now))
+    (items_from_collect c.collect.result c.collect.ensures.ran (YieldsList-from_filter {s = c.filter.result} _ (counts c.args.self.now.image.now c.args.self.now.frozen) (YieldsList-at c.filter.ensures.source (up_to c.new.result (top c.args.self.now.image.now) c.new.ensures.start (c.new.ensures.end ∙ c.top.ensures.answer) c.new.ensures.exhausted)) c.filter.ensures.closure (λ x b q k. search rules)))
