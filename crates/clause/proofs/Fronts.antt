@@ -1,7 +1,7 @@
 -- A clause that is written literal by literal. Assumes nothing.
 use Rattle.std.proofs.Common.{◌≡◌, ℕ, ◌+◌, ◌-◌, ◌<◌, ◌≤◌, ltb, List, [], ◌∷◌, ◌++◌, length, get_or, take, drop, set, Some, None, Option, sym, refl, ap, ◌∙◌, subst, append_assoc, append-nil, arith, length-append, length-set, take-append-drop}
 use Rattle.std.proofs.lemmas.List.{take_more_set, drop-set-lt, drop-drop, get_or-drop, length-take-le}
-use Rattle.std.proofs.lemmas.Bool.{cond-true, cond-false, lt-ltb, le-ltb}
+use Rattle.std.proofs.lemmas.Bool.{cond-false, le-ltb}
 use Rattle.clause.specs.Written.{before, Gives, Writes}
 
 -- the first n of `new` are written, with `rest` they are `all`, and past them `new` is as `old` was
@@ -22,9 +22,6 @@ drop_later n m xs ys h e =
 module _ {all rest : Option (List ℕ)} {old new : List ℕ} {n : ℕ} (s : Sofar all rest old new n) where
   pub sofar_same : (next : Option (List ℕ)) → rest ≡ next → Sofar all next old new n
   sofar_same next e = record { front = s.front ∙ ap (before (take n new)) e; back = s.back; within = s.within }
-
-  pub sofar_of : (all' : Option (List ℕ)) → all' ≡ all → Sofar all' rest old new n
-  sofar_of all' e = record { front = e ∙ s.front; back = s.back; within = s.within }
 
   pub sofar_more : (next : Option (List ℕ)) (l : ℕ) → n < length new → rest ≡ before (l ∷ []) next → Sofar all next old (set new n l) (n + 1)
   sofar_more next l h e = record {
@@ -66,11 +63,6 @@ pub room_enough : {most : ℕ} {r : Option ℕ} {o : Option (List ℕ)} {old new
 room_enough {most} {r} {o} {old} {new} h g =
     let P : Option (List ℕ) → Type 0 = λ o'. Gives most r o' old new in
     record { given = subst P (sym (cond-false (ltb (length old) most) None o (le-ltb (length old) most h))) g; short = λ l. absurd (omega arith) }
-
-pub room_short : {most : ℕ} {o : Option (List ℕ)} {old : List ℕ} → length old < most → Writes most None o old old
-room_short {most} {o} {old} h =
-    let P : Option (List ℕ) → Type 0 = λ o'. Gives most None o' old old in
-    record { given = subst P (sym (cond-true (ltb (length old) most) None o (lt-ltb (length old) most h))) refl; short = λ l. refl }
 
 pub writes_same : {most : ℕ} {r : Option ℕ} {o : Option (List ℕ)} {old new : List ℕ} (new' : List ℕ) → new ≡ new' → Writes most r o old new' → Writes most r o old new
 writes_same {most} {r} {o} {old} {new} new' e w = subst (λ xs. Writes most r o old xs) (sym e) w

@@ -3,7 +3,7 @@ ghost use Rattle.std.specs.Prelude.{◌≡◌, ℕ, true, false, List, None, nat
 ghost use Rattle.network.specs.Signature.{signature, Covers, within, missing};
 ghost use Rattle.network.specs.Subsumption.{part_of, fits};
 
-// 128 bits in two halves, to which each literal of a clause adds the bit of its number modulo 128.
+// 128 bits in two halves of 64, to which each literal of a clause adds the bit of its number modulo 128.
 #[derive(Clone, Copy, PartialEq, Eq, Debug)]
 pub struct Signature {
     pub low: u64,

@@ -61,7 +61,8 @@ pub fn ordered_subsume_execpt_one(a: &[u32], b: &[u32]) -> (bool, Option<Lit>)
     (noted.is_none(), noted)
 }
 
-// Drops a literal from a clause in place: the other literals, in order, at the front, and how many they are.
+// Drops a literal from a clause in place: the other literals, in order, at the front, and how many they are. No method of a slice does it:
+// `retain` is one of `Vec`, and the words are lent.
 pub fn drop_literal(clause: &mut [u32], literal: Lit) -> usize
     ensures { Front result (without literal.word clause.old) clause.old clause.new }
 {

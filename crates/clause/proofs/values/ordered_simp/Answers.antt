@@ -29,7 +29,7 @@ loop-l-preserved c =
       | in-False w ↦ rw (w.out-is, w.n-is) (omega arith, sofar_same l.invariant.1 next (simp_more V C l.l-index (Some false) (omega arith) (k ∙ ap told w.in-False.is)))
       | in-None w ↦
           rw (w.out-is, w.n-is)
-              (omega arith, sofar_more l.invariant.1 next (get_or C l.l-index 0) (omega arith) (simp_kept V C l.l-index (omega arith) (k ∙ ap told w.in-None.is)))
+          (omega arith, sofar_more l.invariant.1 next (get_or C l.l-index 0) (omega arith) (simp_kept V C l.l-index (omega arith) (k ∙ ap told w.in-None.is)))
     ]
 
 pub returns : goal.returns
