@@ -2,8 +2,6 @@
 use Rattle.std.proofs.Common.{◌≡◌, ℕ, zero, suc, ◌+◌, ◌*◌, ◌/◌, ◌%◌, ◌^◌, ◌<◌, ◌≤◌, Bool, true, false, not, ◌&&◌, ◌||◌, eqb, List, [], ◌∷◌, length, get_or, drop, Ok, Err, sym, refl, ap, ◌∙◌, arith}
 use Rattle.std.proofs.lemmas.List.{at_drop_more, at_drop_all}
 use Rattle.std.proofs.lemmas.Bool.{cond-true, cond-false, eq-eqb, ne_eqb}
-use Rattle.std.specs.List.{list_any}
-use Rattle.network.specs.Lists.{any_of}
 use Rattle.network.specs.Assignments.{Assignment, put, holds, sat}
 use Rattle.image.specs.Runs.{Front, clauses}
 use Rattle.image.specs.Faults.{fault}
@@ -11,11 +9,6 @@ use Rattle.image.proofs.Walks.{clauses_on, clauses_none}
 use Rattle.network.specs.Rows.{row, allows, no_value, two_values, some_row}
 use Rattle.network.proofs.Rows.{some_at, some_none, some_more}
 use Rattle.intake.specs.Answers.{searched}
-
--- a test that one of a list passes, as `any` makes it
-pub any_is : (p : ℕ → Bool) (xs : List ℕ) → any_of p xs ≡ list_any p xs
-any_is p [] = refl
-any_is p (x ∷ xs) = ap (λ (b : Bool). p x || b) (any_is p xs)
 
 -- so far the clauses of a row refute what is marked
 abbrev pub SoFar : Assignment → List ℕ → List ℕ → Bool → Type 0
