@@ -1,11 +1,12 @@
 -- One clause's turn, step by step, and the turns one after the other. Assumes nothing.
-use Rattle.std.proofs.Common.{◌≡◌, ℕ, ◌+◌, ◌-◌, ◌<◌, ◌≤◌, Bool, true, false, cond, ◌⊎◌, List, [], ◌∷◌, ◌++◌, map, length, get_or, take, drop, set, sym, refl, ap, ◌∙◌, subst, ⊎_elim, append_assoc, append-nil, arith, length-set}
+use Rattle.std.proofs.Common.{◌≡◌, ℕ, ◌+◌, ◌<◌, ◌≤◌, Bool, true, false, cond, ◌⊎◌, List, [], ◌∷◌, ◌++◌, map, length, get_or, take, drop, set, sym, refl, ap, ◌∙◌, subst, ⊎_elim, append_assoc, append-nil, arith, length-set}
 use Rattle.std.specs.List.{AllByRecursion}
 use Rattle.std.proofs.ByRecursion.{All-from_get_or}
-use Rattle.std.proofs.lemmas.List.{length-take, length-take-le, length-drop, length-map, get_or-take, get_or-drop, get_or-set_same, get_or-set_other, take_more, take_more_set, take-set-le, take-take, drop_more, drop_all, drop-drop, drop-append-le, drop-set-lt, map_push}
+use Rattle.std.proofs.lemmas.List.{length-take, length-take-le, length-drop, length-map, get_or-take, get_or-drop, get_or-set_same, get_or-set_other, take_more, take_more_set, take-set-le, take-take, drop_more, drop_all, drop-append-le, drop-set-lt, map_push}
 use Rattle.std.proofs.lemmas.Bool.{cases_eq}
 use Rattle.network.specs.Lemmas.{swept, turned, lemmas_from}
 use Rattle.lemmas.specs.Words.{lemma_at, named, Stands, Wrote}
+use Rattle.queue.proofs.Lines.{drop_further}
 use Rattle.lemmas.specs.declared.words.Clauses.{Clauses}
 use Rattle.lemmas.specs.declared.words.Meeting.{Meeting}
 use Rattle.lemmas.specs.declared.words.Meeting.TheVariants.{Stays, Goes, Joins}
@@ -15,6 +16,14 @@ use Rattle.lemmas.proofs.Writes.{wrote_none, wrote_trans, wrote_weaker, wrote_ot
 use Rattle.lemmas.proofs.Fewer.{Short, swept_short, full, full_none, full_step, behind, swept_none, swept_more, noted, one_stays, one_joins, all_met}
 
 -- ---- the clauses that a part of the line names
+
+-- the clause at the place p of the line
+abbrev clause_at : Clauses → List ℕ → ℕ → List ℕ
+clause_at C O p = lemma_at C (get_or O p 0)
+
+-- the clauses from the place a on and before b
+abbrev part : Clauses → List ℕ → ℕ → ℕ → List (List ℕ)
+part C O a b = named C (drop a (take b O))
 
 map_same : (F G : ℕ → List ℕ) (xs : List ℕ) → AllByRecursion (λ x. F x ≡ G x) xs → map F xs ≡ map G xs
 map_same F G [] a = refl
@@ -39,11 +48,6 @@ module _ (F : ℕ → List ℕ) (O : List ℕ) where
       ∙ ap (map F) (drop-append-le a (take b O) (x ∷ []) (omega (arith, length-take-le b O (omega arith))))
       ∙ map_push F (drop a (take b O)) x
 
-drop_later : (n m : ℕ) (xs ys : List ℕ) → n ≤ m → drop n xs ≡ drop n ys → drop m xs ≡ drop m ys
-drop_later n m xs ys h e =
-    let k : n + (m - n) ≡ m = omega arith in
-    ap (λ i. drop i xs) (sym k) ∙ sym (drop-drop (m - n) n xs) ∙ ap (drop (m - n)) e ∙ drop-drop (m - n) n ys ∙ ap (λ i. drop i ys) k
-
 -- ---- one clause's turn
 
 -- the turn of the clause at `at` has come to the place j, and the first `left` places of the line are those left so far
@@ -56,7 +60,7 @@ pub record Sweeping (at n : ℕ) (C₀ : Clauses) (O₀ : List ℕ) (C : Clauses
   pub from : From O₀ j O left
   pub once : (p q : ℕ) → p < left → q < left → get_or O p 0 ≡ get_or O q 0 → p ≡ q
   pub wrote : Wrote (At O₀ at n) C₀ C
-  pub whole : swept (named C₀ (drop (at + 1) (take n O₀))) (lemma_at C₀ (get_or O₀ at 0)) ≡ noted again (behind (named C (drop (at + 1) (take left O))) (swept (named C (drop j (take n O₀))) (lemma_at C (get_or O₀ at 0))))
+  pub whole : swept (part C₀ O₀ (at + 1) n) (clause_at C₀ O₀ at) ≡ noted again (behind (part C O (at + 1) left) (swept (part C O₀ j n) (clause_at C O₀ at)))
 
 module _ {at n : ℕ} {C₀ : Clauses} {O₀ : List ℕ} (in' : at < n) (lined : Lined C₀ O₀ n) where
   pub sweep_start : Sweeping at n C₀ O₀ C₀ O₀ (at + 1) (at + 1) false
@@ -69,22 +73,22 @@ module _ {at n : ℕ} {C₀ : Clauses} {O₀ : List ℕ} (in' : at < n) (lined :
     from = λ p h. (p, h, refl);
     once = λ p q hp hq e. lined.once p q (omega arith) (omega arith) e;
     wrote = wrote_none (At O₀ at n) C₀;
-    whole = sym (ap (λ Ds. behind Ds (swept (named C₀ (drop (at + 1) (take n O₀))) (lemma_at C₀ (get_or O₀ at 0)))) (named_none (lemma_at C₀) O₀ (at + 1) (at + 1) (omega arith)));
+    whole = sym (ap (λ Ds. behind Ds (swept (part C₀ O₀ (at + 1) n) (clause_at C₀ O₀ at))) (named_none (lemma_at C₀) O₀ (at + 1) (at + 1) (omega arith)));
   }
 
   module _ {C : Clauses} {O : List ℕ} {j left : ℕ} {again : Bool} (s : Sweeping at n C₀ O₀ C O j left again) where
     -- the turn is over
     pub sweep_end : n ≤ j → j ≤ n → Turned at n left again C₀ O₀ C O
     sweep_end ge le =
-        let K = named C (drop (at + 1) (take left O)) in
-        let A = lemma_at C (get_or O₀ at 0) in
+        let K = part C O (at + 1) left in
+        let A = clause_at C O₀ at in
         let same : j ≡ n = omega arith in
         record {
           low = s.low;
           high = omega (arith, s.high);
           swept_to = s.whole ∙ ap (λ Ds. noted again (behind K (swept Ds A))) (named_none (lemma_at C) O₀ j n ge) ∙ ap (λ t. noted again (behind K t)) (swept_none A) ∙ all_met again A K;
           front = s.front;
-          back = drop_later j n O O₀ le s.back;
+          back = drop_further O₀ O n j le s.back;
           from = λ p h. let (q, qj, e) = s.from p h in (q, omega arith, e);
           lined = record {
             within = omega (arith, s.long, s.high, lined.within);
@@ -114,7 +118,7 @@ module _ {at n : ℕ} {C₀ : Clauses} {O₀ : List ℕ} (in' : at < n) (lined :
         wrote_on : Wrote (At O₀ at n) C₀ C₁
         wrote_on = wrote_trans s.wrote (wrote_weaker (λ k o. ⊎_elim (λ e. (at, omega arith, in', sym e)) (λ e. (j, omega (arith, s.low, s.high), jn, sym (e ∙ later_is))) o) w)
 
-        same_kept : named C (drop (at + 1) (take left O)) ≡ named C₁ (drop (at + 1) (take left O))
+        same_kept : part C O (at + 1) left ≡ part C₁ O (at + 1) left
         same_kept = named_same (lemma_at C) (lemma_at C₁) O (at + 1) left (λ p lo hi.
             let (q, qj, e) = s.from p hi in
             sym (wrote_other w (get_or O p 0) (subst (Stands C) (sym e) (s.wrote.standing (get_or O₀ q 0) (lined.stands q (omega arith))))
@@ -123,7 +127,7 @@ module _ {at n : ℕ} {C₀ : Clauses} {O₀ : List ℕ} (in' : at < n) (lined :
             (λ f. let z = s.once p at hi s.low (f ∙ sym first_is) in omega arith)
             (λ f. let z = lined.once q j (omega arith) jn (sym e ∙ f ∙ later_is) in omega arith) o)))
 
-        same_rest : named C (drop (j + 1) (take n O₀)) ≡ named C₁ (drop (j + 1) (take n O₀))
+        same_rest : part C O₀ (j + 1) n ≡ part C₁ O₀ (j + 1) n
         same_rest = named_same (lemma_at C) (lemma_at C₁) O₀ (j + 1) n (λ p lo hi.
             sym (wrote_other w (get_or O₀ p 0) (s.wrote.standing (get_or O₀ p 0) (lined.stands p hi))
             (λ o.
@@ -132,26 +136,26 @@ module _ {at n : ℕ} {C₀ : Clauses} {O₀ : List ℕ} (in' : at < n) (lined :
             (λ f. let z = lined.once p j hi jn (f ∙ later_is) in omega arith) o)))
 
         module _ (t : Meeting) (m : Meets C C₁ (get_or O₀ at 0) (get_or O j 0) t) where
-          step : swept (named C (drop j (take n O₀))) (lemma_at C (get_or O₀ at 0)) ≡ after t (lemma_at C₁ (get_or O j 0)) (swept (named C₁ (drop (j + 1) (take n O₀))) (lemma_at C₁ (get_or O₀ at 0)))
+          step : swept (part C O₀ j n) (clause_at C O₀ at) ≡ after t (clause_at C₁ O j) (swept (part C₁ O₀ (j + 1) n) (clause_at C₁ O₀ at))
           step =
-              let A = lemma_at C (get_or O₀ at 0) in
-              let D = lemma_at C (get_or O j 0) in
-              let R = named C (drop (j + 1) (take n O₀)) in
+              let A = clause_at C O₀ at in
+              let D = clause_at C O j in
+              let R = part C O₀ (j + 1) n in
               ap (λ Ds. swept Ds A) (named_cons (lemma_at C) O₀ j n jn lined.within ∙ ap (λ x. lemma_at C x ∷ R) (sym later_is))
               ∙ swept_more D R A ∙ m (λ B. swept R B)
-              ∙ ap (λ Ds. after t (lemma_at C₁ (get_or O j 0)) (swept Ds (lemma_at C₁ (get_or O₀ at 0)))) same_rest
+              ∙ ap (λ Ds. after t (clause_at C₁ O j) (swept Ds (clause_at C₁ O₀ at))) same_rest
 
-          so_far : swept (named C₀ (drop (at + 1) (take n O₀))) (lemma_at C₀ (get_or O₀ at 0)) ≡ noted again (behind (named C₁ (drop (at + 1) (take left O))) (after t (lemma_at C₁ (get_or O j 0)) (swept (named C₁ (drop (j + 1) (take n O₀))) (lemma_at C₁ (get_or O₀ at 0)))))
+          so_far : swept (part C₀ O₀ (at + 1) n) (clause_at C₀ O₀ at) ≡ noted again (behind (part C₁ O (at + 1) left) (after t (clause_at C₁ O j) (swept (part C₁ O₀ (j + 1) n) (clause_at C₁ O₀ at))))
           so_far = s.whole ∙ (λ i. noted again (behind (same_kept i) (step i)))
 
           -- the later clause went, and what is noted then of the turn is noted of the whole
-          gone : (g : Bool) → swept (named C₀ (drop (at + 1) (take n O₀))) (lemma_at C₀ (get_or O₀ at 0)) ≡ noted g (behind (named C₁ (drop (at + 1) (take left O))) (swept (named C₁ (drop (j + 1) (take n O₀))) (lemma_at C₁ (get_or O₀ at 0)))) → Sweeping at n C₀ O₀ C₁ O (j + 1) left g
+          gone : (g : Bool) → swept (part C₀ O₀ (at + 1) n) (clause_at C₀ O₀ at) ≡ noted g (behind (part C₁ O (at + 1) left) (swept (part C₁ O₀ (j + 1) n) (clause_at C₁ O₀ at))) → Sweeping at n C₀ O₀ C₁ O (j + 1) left g
           gone g whole = record {
             low = s.low;
             high = omega (arith, s.high);
             long = s.long;
             front = s.front;
-            back = drop_later j (j + 1) O O₀ (omega arith) s.back;
+            back = drop_further O₀ O (j + 1) j (omega arith) s.back;
             from = λ p h. let (q, qj, f) = s.from p h in (q, omega arith, f);
             once = s.once;
             wrote = wrote_on;
@@ -160,15 +164,15 @@ module _ {at n : ℕ} {C₀ : Clauses} {O₀ : List ℕ} (in' : at < n) (lined :
 
           pub sweep_goes : t ≡ Goes → Sweeping at n C₀ O₀ C₁ O (j + 1) left again
           sweep_goes e =
-              let K = named C₁ (drop (at + 1) (take left O)) in
-              let u = swept (named C₁ (drop (j + 1) (take n O₀))) (lemma_at C₁ (get_or O₀ at 0)) in
-              gone again (so_far ∙ ap (λ b. noted again (behind K (after b (lemma_at C₁ (get_or O j 0)) u))) e)
+              let K = part C₁ O (at + 1) left in
+              let u = swept (part C₁ O₀ (j + 1) n) (clause_at C₁ O₀ at) in
+              gone again (so_far ∙ ap (λ b. noted again (behind K (after b (clause_at C₁ O j) u))) e)
 
           pub sweep_joins : t ≡ Joins → Sweeping at n C₀ O₀ C₁ O (j + 1) left true
           sweep_joins e =
-              let K = named C₁ (drop (at + 1) (take left O)) in
-              let D = lemma_at C₁ (get_or O j 0) in
-              let u = swept (named C₁ (drop (j + 1) (take n O₀))) (lemma_at C₁ (get_or O₀ at 0)) in
+              let K = part C₁ O (at + 1) left in
+              let D = clause_at C₁ O j in
+              let u = swept (part C₁ O₀ (j + 1) n) (clause_at C₁ O₀ at) in
               gone true (so_far ∙ ap (λ b. noted again (behind K (after b D u))) e ∙ one_joins K D u again)
 
           -- the later clause stays
@@ -187,7 +191,7 @@ module _ {at n : ℕ} {C₀ : Clauses} {O₀ : List ℕ} (in' : at < n) (lined :
                 high = omega (arith, s.high);
                 long = length-set O left x ∙ s.long;
                 front = take-set-le (at + 1) O left x (omega (arith, s.low)) ∙ s.front;
-                back = drop-set-lt (j + 1) O left x (omega (arith, s.high)) ∙ drop_later j (j + 1) O O₀ (omega arith) s.back;
+                back = drop-set-lt (j + 1) O left x (omega (arith, s.high)) ∙ drop_further O₀ O (j + 1) j (omega arith) s.back;
                 from = λ p h.
                     ⊎_elim
                     (λ f. (j, omega arith, ap (λ i. get_or (set O left x) i 0) f ∙ here ∙ later_is))
@@ -205,9 +209,9 @@ module _ {at n : ℕ} {C₀ : Clauses} {O₀ : List ℕ} (in' : at < n) (lined :
                     (cases_eq p left);
                 wrote = wrote_on;
                 whole =
-                    let K = named C₁ (drop (at + 1) (take left O)) in
+                    let K = part C₁ O (at + 1) left in
                     let D = lemma_at C₁ x in
-                    let u = swept (named C₁ (drop (j + 1) (take n O₀))) (lemma_at C₁ (get_or O₀ at 0)) in
+                    let u = swept (part C₁ O₀ (j + 1) n) (clause_at C₁ O₀ at) in
                     so_far ∙ ap (λ b. noted again (behind K (after b D u))) e ∙ one_stays K D u again
                     ∙ ap (λ Ds. noted again (behind Ds u)) (sym (named_push (lemma_at C₁) O (at + 1) left x (omega (arith, s.low)) room));
               }
@@ -218,7 +222,7 @@ module _ {at n : ℕ} {C₀ : Clauses} {O₀ : List ℕ} (in' : at < n) (lined :
 pub record Running (n : ℕ) (C₀ : Clauses) (O₀ : List ℕ) (C : Clauses) (O : List ℕ) (at left : ℕ) : Type 0 where
   pub low : at ≤ left
   pub high : left ≤ n
-  pub whole : full (named C₀ (take n O₀)) ≡ named C (take at O) ++ full (named C (drop at (take left O)))
+  pub whole : full (named C₀ (take n O₀)) ≡ named C (take at O) ++ full (part C O at left)
   pub back : drop n O ≡ drop n O₀
   pub from : From O₀ n O left
   pub lined : Lined C O left
@@ -238,10 +242,10 @@ run_start {n} {C₀} {O₀} lined = record {
 -- a turn that comes again has left fewer
 pub turned_less : {at n m : ℕ} {again : Bool} {C : Clauses} {O : List ℕ} {C₁ : Clauses} {O₁ : List ℕ} → n ≤ length O → again ≡ true → Turned at n m again C O C₁ O₁ → m < n
 turned_less {at} {n} {m} {again} {C} {O} {C₁} {O₁} within e t =
-    let Ds = named C (drop (at + 1) (take n O)) in
-    let A = lemma_at C (get_or O at 0) in
-    let R = named C₁ (drop (at + 1) (take m O₁)) in
-    let h : Short (length Ds) (record { first = lemma_at C₁ (get_or O at 0); again = again; rest = R }) = subst (Short (length Ds)) t.swept_to (swept_short Ds A) in
+    let Ds = part C O (at + 1) n in
+    let A = clause_at C O at in
+    let R = part C₁ O₁ (at + 1) m in
+    let h : Short (length Ds) (record { first = clause_at C₁ O at; again = again; rest = R }) = subst (Short (length Ds)) t.swept_to (swept_short Ds A) in
     omega (
       arith,
       h.less e,
@@ -261,7 +265,7 @@ module _ {n : ℕ} {C₀ : Clauses} {O₀ : List ℕ} {C : Clauses} {O : List �
       let same : at ≡ left = omega (arith, s.low) in
       let Cs = named C₀ (take n O₀) in
       let long : length Cs ≡ n = length-map (take n O₀) (lemma_at C₀) ∙ length-take-le n O₀ within in
-      let none : full (named C (drop at (take left O))) ≡ [] = ap full (named_none (lemma_at C) O at left le) ∙ full_none in
+      let none : full (part C O at left) ≡ [] = ap full (named_none (lemma_at C) O at left le) ∙ full_none in
       record {
         high = s.high;
         ran =
@@ -288,18 +292,18 @@ module _ {n : ℕ} {C₀ : Clauses} {O₀ : List ℕ} {C : Clauses} {O : List �
         sym (wrote_other t.wrote (get_or O p 0) (s.lined.stands p (omega arith)) (λ (q, ql, qh, e). let z = s.lined.once q p qh (omega arith) e in omega arith)))
         ∙ ap (named C₁) (sym front_line)
 
-    turn : full (named C (drop at (take left O))) ≡ cond again (full (named C₁ (drop at (take kept O₁)))) (lemma_at C₁ (get_or O₁ at 0) ∷ full (named C₁ (drop (at + 1) (take kept O₁))))
+    turn : full (part C O at left) ≡ cond again (full (part C₁ O₁ at kept)) (clause_at C₁ O₁ at ∷ full (part C₁ O₁ (at + 1) kept))
     turn =
-        let A = lemma_at C (get_or O at 0) in
-        let Ds = named C (drop (at + 1) (take left O)) in
-        let R = named C₁ (drop (at + 1) (take kept O₁)) in
+        let A = clause_at C O at in
+        let Ds = part C O (at + 1) left in
+        let R = part C₁ O₁ (at + 1) kept in
         let F₁ = lemma_at C₁ in
         ap full (named_cons (lemma_at C) O at left in' s.lined.within) ∙ full_step A Ds ∙ ap (λ u. turned u full) t.swept_to
         ∙ ap (λ x. cond again (full (F₁ x ∷ R)) (F₁ x ∷ full R)) (sym here)
         ∙ ap (λ Cs. cond again (full Cs) (F₁ (get_or O₁ at 0) ∷ full R)) (sym (named_cons F₁ O₁ at kept t.low t.lined.within))
 
     back_on : drop n O₁ ≡ drop n O₀
-    back_on = drop_later left n O₁ O s.high t.back ∙ s.back
+    back_on = drop_further O O₁ n left s.high t.back ∙ s.back
 
     from_on : From O₀ n O₁ kept
     from_on p h =
@@ -312,12 +316,12 @@ module _ {n : ℕ} {C₀ : Clauses} {O₀ : List ℕ} {C : Clauses} {O : List �
 
     pub run_again : again ≡ true → Running n C₀ O₀ C₁ O₁ at kept
     run_again e =
-        let A = full (named C₁ (drop at (take kept O₁))) in
-        let B = lemma_at C₁ (get_or O₁ at 0) ∷ full (named C₁ (drop (at + 1) (take kept O₁))) in
+        let A = full (part C₁ O₁ at kept) in
+        let B = clause_at C₁ O₁ at ∷ full (part C₁ O₁ (at + 1) kept) in
         record {
           low = omega (arith, t.low);
           high = omega (arith, t.high, s.high);
-          whole = s.whole ∙ ap (λ Cs. Cs ++ full (named C (drop at (take left O)))) front_same ∙ ap (λ Cs. named C₁ (take at O₁) ++ Cs) (turn ∙ ap (λ b. cond b A B) e);
+          whole = s.whole ∙ ap (λ Cs. Cs ++ full (part C O at left)) front_same ∙ ap (λ Cs. named C₁ (take at O₁) ++ Cs) (turn ∙ ap (λ b. cond b A B) e);
           back = back_on;
           from = from_on;
           lined = t.lined;
@@ -326,16 +330,16 @@ module _ {n : ℕ} {C₀ : Clauses} {O₀ : List ℕ} {C : Clauses} {O : List �
 
     pub run_on : again ≡ false → Running n C₀ O₀ C₁ O₁ (at + 1) kept
     run_on e =
-        let A = full (named C₁ (drop at (take kept O₁))) in
-        let R = full (named C₁ (drop (at + 1) (take kept O₁))) in
-        let F = lemma_at C₁ (get_or O₁ at 0) in
+        let A = full (part C₁ O₁ at kept) in
+        let R = full (part C₁ O₁ (at + 1) kept) in
+        let F = clause_at C₁ O₁ at in
         let more : named C₁ (take (at + 1) O₁) ≡ named C₁ (take at O₁) ++ F ∷ [] =
         ap (named C₁) (take_more O₁ at 0 (omega (arith, t.low, t.lined.within))) ∙ map_push (lemma_at C₁) (take at O₁) (get_or O₁ at 0) in
         record {
           low = omega (arith, t.low);
           high = omega (arith, t.high, s.high);
           whole =
-              s.whole ∙ ap (λ Cs. Cs ++ full (named C (drop at (take left O)))) front_same ∙ ap (λ Cs. named C₁ (take at O₁) ++ Cs) (turn ∙ ap (λ b. cond b A (F ∷ R)) e)
+              s.whole ∙ ap (λ Cs. Cs ++ full (part C O at left)) front_same ∙ ap (λ Cs. named C₁ (take at O₁) ++ Cs) (turn ∙ ap (λ b. cond b A (F ∷ R)) e)
               ∙ sym (append_assoc (named C₁ (take at O₁)) (F ∷ []) R) ∙ ap (λ Cs. Cs ++ R) (sym more);
           back = back_on;
           from = from_on;

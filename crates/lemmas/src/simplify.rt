@@ -7,15 +7,15 @@ use crate::words::{Clauses, WIDTH};
 
 // The words that a simplification is lent.
 #[derive(Drop)]
-pub struct Lemmas<'l, 'c, 'o, 'e, 'p> {
+pub struct Lemmas<'w> {
     // Clause k has its length at `lengths[k]` and its literals from `literals[32 * k]` on.
-    pub lengths: &'l mut [u32],
-    pub literals: &'c mut [u32],
+    pub lengths: &'w mut [u32],
+    pub literals: &'w mut [u32],
     // The line of the numbers of those that are left.
-    pub order: &'o mut [u32],
+    pub order: &'w mut [u32],
     // Working words, one of each for a clause.
-    pub entries: &'e mut [u32],
-    pub places: &'p mut [u32],
+    pub entries: &'w mut [u32],
+    pub places: &'w mut [u32],
 }
 
 // Whether each clause has at most 32 literals.
@@ -25,7 +25,7 @@ fn are_short(lengths: &[u32]) -> bool
     lengths.iter().all(|&long| long as usize <= WIDTH)
 }
 
-impl Lemmas<'_, '_, '_, '_, '_> {
+impl Lemmas<'_> {
     // Whether there are words for `count` clauses, each of at most 32 literals.
     fn admits(&self, count: u32) -> bool
         ensures { Decides result (Admits count self.now) }

@@ -13,7 +13,7 @@ struct Turn {
     again: bool,
 }
 
-// Two functions require that the line names clauses that stand: the line is lent, and it is a line only up to a number that falls.
+// Both require that the line names clauses that stand, each once: the line is lent apart, and only its first numbers are such.
 impl Clauses<'_> {
     // The turn of the clause at the place `at`, against those after it among the first `n` of the line.
     fn sweep(&mut self, order: &mut [u32], at: usize, n: usize) -> Turn

@@ -27,7 +27,7 @@ pub(crate) enum Meeting {
     Joins,
 }
 
-// That a clause stands is required for one clause at a time: other words may hold clauses that are too long.
+// Each requires that its own clause stands, and the type cannot say so of all: other lent words may hold a clause that is too long.
 impl Clauses<'_> {
     // The literals of a clause.
     fn literals_of(&self, number: u32) -> &[u32]

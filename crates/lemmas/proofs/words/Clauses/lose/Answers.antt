@@ -1,14 +1,6 @@
 use Rattle.std.proofs.Common.{◌≡◌, ◌+◌, ◌-◌, ◌*◌, get_or, refl, arith}
-use Rattle.lemmas.proofs.Writes.{lost_fits, lost_writes, lost_is}
+use Rattle.lemmas.proofs.Writes.{lost_writes, lost_is}
 use Rattle.lemmas.proofs.words.Clauses.lose.Goals as goal
-
-pub overflow_cast-self : goal.overflow_cast-self
-overflow_cast-self c =
-    let C = c.args.self.now in
-    let k = c.args.number in
-    let e : 32 * k + get_or C.lengths.now k 0 - 32 * k ≡ get_or C.lengths.now k 0 = omega arith in
-    let h = lost_fits C c.drop_literal-left.new.clause k c.args.literal.word c.drop_literal-left.result _ e c.requires c.drop_literal-left.ensures in
-    omega arith
 
 pub returns : goal.returns
 returns c =

@@ -1,19 +1,16 @@
 use Rattle.std.proofs.Common.{arith}
-use Rattle.lemmas.proofs.Sweeps.{sweep_start, sweep_end, first_stands, later_stands, pair_apart, sweep_goes, sweep_joins, sweep_stays}
+use Rattle.lemmas.proofs.Sweeps.{sweep_start, sweep_end, later_stands, pair_apart, sweep_goes, sweep_joins, sweep_stays}
 use Rattle.lemmas.proofs.words.Clauses.sweep.Goals as goal
 use Rattle.lemmas.proofs.words.Clauses.sweep.Goals.{in-Stays, in-Goes, in-Joins}
 
 pub loop-j-init : goal.loop-j-init
 loop-j-init c = sweep_start c.requires.within c.requires.lined
 
-pub meet-requires : goal.meet-requires
-meet-requires c =
-    let s = c.loop-j.invariant in
-    record {
-      first = first_stands c.requires.within c.requires.lined s (omega arith);
-      later = later_stands c.requires.within c.requires.lined s (omega arith);
-      apart = pair_apart c.requires.within c.requires.lined s (omega arith);
-    }
+pub meet-requires-clause-later : goal.meet-requires-clause-later
+meet-requires-clause-later c = later_stands c.requires.within c.requires.lined c.loop-j.invariant (omega arith)
+
+pub meet-requires-clause-apart : goal.meet-requires-clause-apart
+meet-requires-clause-apart c = pair_apart c.requires.within c.requires.lined c.loop-j.invariant (omega arith)
 
 pub loop-j-preserved : goal.loop-j-preserved
 loop-j-preserved c =
