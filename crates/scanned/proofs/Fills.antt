@@ -30,7 +30,7 @@ filled_none room ws long a =
       held = lone_held 2051 (node_count room) ws (omega arith) long a;
       others = λ l h n. e l h;
       sized = ap length (e 2048 (omega arith));
-      low = subst (AllByRecursion (λ x. x < 2051 + 0)) (sym (e 2048 (omega arith))) tt;
+      low = rw (e 2048 (omega arith)) tt;
       alone = λ n g h. (a n h).0;
     }
 
@@ -43,14 +43,14 @@ filled_more room ws vs i h f e =
       held = push_held 2051 (node_count room) ws f.held 2048 (2051 + i) (omega arith) (omega arith) (omega arith) al;
       others = λ l k n. r l k ∙ at_else (rg room ws) 2048 (rg room ws 2048 ++ ((2051 + i) ∷ [])) l n ∙ f.others l k n;
       sized = ap length one ∙ length_push (rg room ws 2048) (2051 + i) ∙ ap (λ (k : ℕ). k + 1) f.sized;
-      low = subst (AllByRecursion (λ x. x < 2051 + (i + 1))) (sym one) (All-push (λ x. x < 2051 + (i + 1)) (rg room ws 2048) (2051 + i) (All-weaker (λ x. x < 2051 + i) (λ x. x < 2051 + (i + 1)) (λ x q. omega arith) (rg room ws 2048) f.low) (omega arith));
+      low = rw one (All-push (λ x. x < 2051 + (i + 1)) (rg room ws 2048) (2051 + i) (All-weaker (λ x. x < 2051 + i) (λ x. x < 2051 + (i + 1)) (λ x q. omega arith) (rg room ws 2048) f.low) (omega arith));
       alone = λ n g k. push_still 2051 (node_count room) ws f.held 2048 (2051 + i) (omega arith) (omega arith) (omega arith) al n k (λ q. omega arith) (f.alone n (omega arith) k) (λ q. omega arith);
     } in
     subst (λ (us : List ℕ). Filled room us (i + 1)) (sym e) made
 
 module _ (room : ℕ) (ws : List ℕ) (f : Filled room ws room) where
   none : (P : ℕ → Type 0) (l : ℕ) → l < 2051 → (l ≡ 2048 → ⊥) → AllByRecursion P (rg room ws l)
-  none P l h n = subst (AllByRecursion P) (sym (f.others l h n)) tt
+  none P l h n = rw (f.others l h n) tt
 
   pub filled_whole : 2 * node_count room + 34 * room ≤ length ws → Whole room false ws
   filled_whole long = record {
