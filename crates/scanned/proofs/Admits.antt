@@ -68,7 +68,7 @@ module _ (room : ℕ) (ix : Bool) (ws vs : List ℕ) (w : Whole room ix ws) (som
   ring0 = same_ring 2051 N ws vs w.held (let a = w.long in let b = wr.long in omega arith) links
 
   in0 : 0 < length (rg room vs 2048)
-  in0 = subst (λ (ys : List ℕ). 0 < length ys) (sym (ring0 2048 (omega arith))) place.0
+  in0 = rw (ring0 2048 (omega arith)) place.0
 
   is0 : get_or (rg room vs 2048) 0 0 ≡ x
   is0 = ap (λ (ys : List ℕ). get_or ys 0 0) (ring0 2048 (omega arith)) ∙ place.1
@@ -169,7 +169,7 @@ module _ (room : ℕ) (ix : Bool) (ws vs : List ℕ) (w : Whole room ix ws) (som
   owned : (P : ℕ → ℕ → Type 0) → ((l : ℕ) → l < 2048 → AllByRecursion (P l) (Q l)) → P l0 x → (l : ℕ) → l < 2048 → AllByRecursion (P l) (rg room us l)
   owned P old new l h =
       elim (cases_eq l l0) [
-        | inl e ↦ rw (ring_own l e) (All-push (P l) (Q l0) x (subst (λ (m : ℕ). AllByRecursion (P l) (Q m)) e (old l h)) (subst (λ (m : ℕ). P m x) (sym e) new))
+        | inl e ↦ rw (ring_own l e) (All-push (P l) (Q l0) x (subst (λ (m : ℕ). AllByRecursion (P l) (Q m)) e (old l h)) (rw e new))
         | inr n ↦ rw (ring_else l (omega arith) n (λ q. omega arith)) (old l h)
       ]
 
@@ -191,7 +191,7 @@ module _ (room : ℕ) (ix : Bool) (ws vs : List ℕ) (w : Whole room ix ws) (som
         low = λ l h. elim (cases_lt l 2048) [
           | inl lt ↦ owned (λ l y. y < 2051 + room) (λ l h. w.low l (omega arith)) sx1 l lt
           | inr ge ↦ elim (cases_eq l 2048) [
-            | inl e ↦ subst (λ (m : ℕ). AllByRecursion (λ y. y < 2051 + room) (rg room us m)) (sym e) (rw ring_free (drop_at_all (λ y. y < 2051 + room) 0 (Q 2048) (w.low 2048 (omega arith))))
+            | inl e ↦ rw e (rw ring_free (drop_at_all (λ y. y < 2051 + room) 0 (Q 2048) (w.low 2048 (omega arith))))
             | inr n ↦ rw (ring_else l (omega arith) (λ q. omega arith) n) (w.low l h)
           ]
         ];

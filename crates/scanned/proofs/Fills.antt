@@ -46,7 +46,7 @@ filled_more room ws vs i h f e =
       low = rw one (All-push (λ x. x < 2051 + (i + 1)) (rg room ws 2048) (2051 + i) (All-weaker (λ x. x < 2051 + i) (λ x. x < 2051 + (i + 1)) (λ x q. omega arith) (rg room ws 2048) f.low) (omega arith));
       alone = λ n g k. push_still 2051 (node_count room) ws f.held 2048 (2051 + i) (omega arith) (omega arith) (omega arith) al n k (λ q. omega arith) (f.alone n (omega arith) k) (λ q. omega arith);
     } in
-    subst (λ (us : List ℕ). Filled room us (i + 1)) (sym e) made
+    rw e made
 
 module _ (room : ℕ) (ws : List ℕ) (f : Filled room ws room) where
   none : (P : ℕ → Type 0) (l : ℕ) → l < 2051 → (l ≡ 2048 → ⊥) → AllByRecursion P (rg room ws l)
@@ -56,7 +56,7 @@ module _ (room : ℕ) (ws : List ℕ) (f : Filled room ws room) where
   filled_whole long = record {
     long = long;
     held = f.held;
-    low = λ l h. elim (cases_eq l 2048) [ inl e ↦ subst (λ (k : ℕ). AllByRecursion (λ x. x < 2051 + room) (rg room ws k)) (sym e) f.low | inr n ↦ none (λ x. x < 2051 + room) l (omega arith) n ];
+    low = λ l h. elim (cases_eq l 2048) [ inl e ↦ rw e f.low | inr n ↦ none (λ x. x < 2051 + room) l (omega arith) n ];
     high = none (λ n. 2051 + room ≤ n) 2050 (omega arith) (λ q. omega arith);
     sizes = λ l h. none (λ x. get_or ws (text_at room x) 0 < 33) l (omega arith) (λ q. omega arith);
     wells = λ l h. none _ l (omega arith) (λ q. omega arith);
@@ -91,7 +91,7 @@ bare_blank ws = same_meaning 0 false _ _ _ _ _ 0 (λ l. ap (map (text_of 0 ws)) 
 pub filled_scattered : (room : ℕ) (ws vs : List ℕ) → 2 * node_count room ≤ length ws → vs ≡ scattered (node_count room) ws → Filled room vs 0
 filled_scattered room ws vs long e =
     let l = scattered_length (node_count room) ws in
-    subst (λ (us : List ℕ). Filled room us 0) (sym e) (filled_none room (scattered (node_count room) ws) (omega arith) (scattered_alone (node_count room) ws long))
+    rw e (filled_none room (scattered (node_count room) ws) (omega arith) (scattered_alone (node_count room) ws long))
 
 -- what the writer writes
 pub filled_put : (room : ℕ) (ws vs : List ℕ) (i : ℕ) → i < room → Filled room ws i → vs ≡ put_in ws 2048 (2051 + i) → Filled room vs (i + 1)
@@ -113,4 +113,4 @@ pub fitting_means : (room len : ℕ) → fitting room len ≡ true → (2 ≤ ro
 fitting_means room len e = (grind (arith, nat_tests), grind (arith, nat_tests), grind (arith, nat_tests))
 
 pub no_room_blank : (room : ℕ) (ws : List ℕ) → room ≡ 0 → meaning_of room false ws ≡ blank room
-no_room_blank room ws e = subst (λ (r : ℕ). meaning_of r false ws ≡ blank r) (sym e) (bare_blank ws)
+no_room_blank room ws e = rw e (bare_blank ws)

@@ -168,8 +168,8 @@ module _ (room : ℕ) (ws : List ℕ) (w : Whole room true ws) (none : rg room w
     low = λ l h. elim (cases_lt l 2048) [
       | inl lt ↦ rw (r_low l lt) (w.low l h)
       | inr ge ↦ elim (cases_eq l 2048) [
-        | inl e ↦ subst (λ (k : ℕ). AllByRecursion (λ y. y < 2051 + room) (rg room us k)) (sym e) (rw r_free (All-push (λ y. y < 2051 + room) (P 2048) x (w.low 2048 (omega arith)) xs.1))
-        | inr ne ↦ let e : l ≡ 2049 = omega arith in subst (λ (k : ℕ). AllByRecursion (λ y. y < 2051 + room) (rg room us k)) (sym e) (rw r_gone (drop_at_all (λ y. y < 2051 + room) 0 (P 2049) (w.low 2049 (omega arith))))
+        | inl e ↦ rw e (rw r_free (All-push (λ y. y < 2051 + room) (P 2048) x (w.low 2048 (omega arith)) xs.1))
+        | inr ne ↦ let e : l ≡ 2049 = omega arith in rw e (rw r_gone (drop_at_all (λ y. y < 2051 + room) 0 (P 2049) (w.low 2049 (omega arith))))
       ]
     ];
     high = rw free_none tt;

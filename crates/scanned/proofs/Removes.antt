@@ -100,7 +100,7 @@ module _ (room : ℕ) (ix : Bool) (ws : List ℕ) (w : Whole room ix ws) (some :
       c1.rings' m (omega arith) ∙ without_lacks n (Q m) (All-weaker (λ y. y < 2051 + room) (λ y. y ≡ n → ⊥) (λ y q e. let p = xs.0 in omega arith) (Q m) (w.low m h))
 
   in1 : i < length (rg room v1 l)
-  in1 = let p = ll in subst (λ (ys : List ℕ). i < length ys) (sym (r1 l (omega arith))) xr.0
+  in1 = let p = ll in rw (r1 l (omega arith)) xr.0
 
   is1 : get_or (rg room v1 l) i 0 ≡ x
   is1 = let p = ll in ap (λ (ys : List ℕ). get_or ys i 0) (r1 l (omega arith)) ∙ xr.1
@@ -220,7 +220,7 @@ module _ (room : ℕ) (ix : Bool) (ws : List ℕ) (w : Whole room ix ws) (some :
     low = λ m h. elim (cases_lt m 2048) [
       | inl lt ↦ owned (λ _ y. y < 2051 + room) (λ m h. w.low m (omega arith)) m lt
       | inr ge ↦ elim (cases_eq m 2048) [
-        | inl e ↦ subst (λ (k : ℕ). AllByRecursion (λ y. y < 2051 + room) (rg room v3 k)) (sym e) (rw ring_free (All-push (λ y. y < 2051 + room) (Q 2048) x (w.low 2048 (omega arith)) xs.1))
+        | inl e ↦ rw e (rw ring_free (All-push (λ y. y < 2051 + room) (Q 2048) x (w.low 2048 (omega arith)) xs.1))
         | inr ne ↦ let p = ll in rw (ring_else m h (λ q. omega arith) ne) (w.low m h)
       ]
     ];

@@ -189,7 +189,7 @@ module _ (room : ℕ) (ix : Bool) (ws : List ℕ) (w : Whole room ix ws) (some :
           low = λ m k. elim (cases_lt m 2048) [
             | inl lo ↦ owned (λ _ y. y < 2051 + room) (λ m k. w.low m (omega arith)) m lo
             | inr ge ↦ elim (cases_eq m h) [
-              | inl e ↦ subst (λ (j : ℕ). AllByRecursion (λ y. y < 2051 + room) (rg room vs j)) (sym e) (rw ring_to (All-push (λ y. y < 2051 + room) (Q h) x (w.low h hb.1) xs.1))
+              | inl e ↦ rw e (rw ring_to (All-push (λ y. y < 2051 + room) (Q h) x (w.low h hb.1) xs.1))
               | inr ne ↦ rw (ring_else m (omega arith) (λ z. omega arith) ne) (w.low m k)
             ]
           ];
