@@ -31,8 +31,8 @@ pub without_gone : (s : ℕ) (xs : List ℕ) → Lacks s (without s xs)
 without_gone s [] = tt
 without_gone s (x ∷ xs) =
     elim (cases_eq x s) [
-      | inl e ↦ subst (Lacks s) (sym (without_here s x xs e)) (without_gone s xs)
-      | inr ne ↦ subst (Lacks s) (sym (without_other s x xs ne)) (ne, without_gone s xs)
+      | inl e ↦ rw (without_here s x xs e) (without_gone s xs)
+      | inr ne ↦ rw (without_other s x xs ne) (ne, without_gone s xs)
     ]
 
 without_differ : (s : ℕ) (xs : List ℕ) → Differ xs → Differ (without s xs)
