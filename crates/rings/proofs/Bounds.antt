@@ -1,8 +1,8 @@
 -- What the writers read and write lies within the words where rings stand, so that they write what they should. Assumes nothing.
-use Rattle.std.proofs.Common.{◌≡◌, ℕ, zero, suc, ◌+◌, ◌-◌, ◌*◌, ◌<◌, ◌≤◌, true, cond, ◌&&◌, eqb, ltb, leb, List, [], ◌∷◌, ◌++◌, length, get_or, take, drop, set, Some, None, sym, refl, ap, ◌∙◌, subst, inl, inr, arith, length-set}
+use Rattle.std.proofs.Common.{◌≡◌, ℕ, zero, suc, ◌+◌, ◌-◌, ◌*◌, ◌<◌, ◌≤◌, true, cond, ◌&&◌, eqb, ltb, leb, List, [], ◌∷◌, ◌++◌, length, get_or, drop, set, Some, None, sym, refl, ap, ◌∙◌, subst, inl, inr, arith, length-set}
 use Rattle.std.proofs.lemmas.Bool.{cases_eq, cases_lt, cond-true, cond-false, eq-eqb, ne_eqb, lt-ltb, le-ltb, le-leb, lt-leb, and_from, and_right}
 use Rattle.std.proofs.lemmas.List.{get_or_at, get_or_append_left, get_or-set_same, get_or-set_other, drop-set-lt}
-use Rattle.rings.specs.Rings.{next, prev, ring, at, drop_at, without, inside, knotted, Held, Place, unlinked, linked, swapped, cut_out, put_in, shifted, brought, swapped_out, slot_after, scattered}
+use Rattle.rings.specs.Rings.{next, prev, ring, inside, knotted, Held, Place, unlinked, linked, swapped, cut_out, put_in, shifted, brought, swapped_out, slot_after, scattered}
 use Rattle.rings.specs.Laws.{RingLaws}
 use Rattle.rings.proofs.Shifts.{slot_at, out_held, last_slot, h2, cuts, swaps, first_is, next_is, push_ring, push_held, push_drop, moved_ring, moved_held, moved_drop, rings_apart, lone_ring, lone_held}
 

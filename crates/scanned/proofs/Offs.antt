@@ -1,7 +1,6 @@
 -- The index dropped. Assumes nothing.
 use Rattle.std.proofs.Common.{◌≡◌, ℕ, ◌+◌, ◌-◌, ◌*◌, ◌<◌, ◌≤◌, Bool, true, false, not, ◌&&◌, eqb, ltb, List, [], ◌∷◌, ◌++◌, map, length, get_or, drop, filter, sym, refl, ap, ◌∙◌, subst, inl, inr, arith, length-set}
 use mathlib.Core.Path.{fun_ext}
-use Rattle.std.specs.List.{AllByRecursion}
 use Rattle.std.proofs.lemmas.Bool.{cases_lt, cases_eq, cond-false, le-ltb, both_ways}
 use Rattle.std.proofs.lemmas.List.{length_push}
 use Rattle.std.proofs.ByRecursion.{All-get_or, All-from_get_or, All-push, All-weaker}
@@ -20,7 +19,7 @@ use Rattle.scanned.specs.Layout.{node_count, rg, text_of, was_of, own_of, seq_of
 use Rattle.scanned.proofs.Wholes.{own_same}
 use Rattle.scanned.proofs.Totals.{total_same}
 use Rattle.scanned.proofs.Admits.{seq_is, dead_is}
-use Rattle.scanned.proofs.Joins.{Short, Well, Ends, Spanned, InUse, text_past, sizes_past, wells_past, ends_past, spans_past, useds_past}
+use Rattle.scanned.proofs.Joins.{Spanned, InUse, text_past, sizes_past, wells_past, ends_past, spans_past, useds_past}
 use Rattle.scanned.proofs.Removes.{lacks_without}
 
 pub kin_then : (room : ℕ) (ws vs us : List ℕ) → Kin room ws vs → Kin room vs us → Kin room ws us

@@ -24,7 +24,7 @@ use Rattle.network.specs.Lists.{any_of}
 use Rattle.rules.specs.Store.{literals}
 use Rattle.scanned.proofs.Totals.{total_at, any_literals}
 use Rattle.scanned.proofs.Admits.{seq_is, dead_is}
-use Rattle.scanned.proofs.Joins.{Short, Well, Ends, Spanned, InUse, text_past, sizes_past, wells_past, ends_past, spans_past, useds_past, passes_past}
+use Rattle.scanned.proofs.Joins.{Short, Well, Ends, text_past, sizes_past, wells_past, ends_past, spans_past, useds_past, passes_past}
 use Rattle.scanned.proofs.Asks.{at_literal, at_ring, at_slot, at_low}
 
 lacks_has : (x : ℕ) (ys : List ℕ) → Lacks x ys → has x ys ≡ false

@@ -1,5 +1,5 @@
-use Rattle.std.proofs.Common.{ℕ, ◌<◌, true, List, length, sym, ◌∙◌, subst, arith}
-use Rattle.scanned.specs.Layout.{Whole, Kin, rg}
+use Rattle.std.proofs.Common.{true, sym, ◌∙◌, subst, arith}
+use Rattle.scanned.specs.Layout.{Whole, Kin}
 use Rattle.scanned.proofs.Asks.{reads_some, reads_none}
 use Rattle.scanned.proofs.Offs.{kin_then, cut_words, cut_shorter, cut_kin, cut_whole}
 use Rattle.scanned.proofs.words.cut_sequence.Goals as goal

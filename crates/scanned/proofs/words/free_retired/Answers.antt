@@ -1,4 +1,4 @@
-use Rattle.std.proofs.Common.{ℕ, ◌<◌, true, List, length, sym, ap, ◌∙◌, subst, arith}
+use Rattle.std.proofs.Common.{ℕ, true, List, sym, ap, ◌∙◌, subst, arith}
 use Rattle.scanned.specs.Layout.{Whole, Kin, rg}
 use Rattle.scanned.proofs.Asks.{reads_some, reads_none}
 use Rattle.scanned.proofs.Offs.{kin_then, free_words, free_shorter, free_kin, free_whole, free_none}
