@@ -1,8 +1,8 @@
 -- What the writers read and write lies within the words where rings stand, so that they write what they should. Assumes nothing.
-use Rattle.std.proofs.Common.{◌≡◌, ℕ, zero, suc, ◌+◌, ◌-◌, ◌*◌, ◌<◌, ◌≤◌, true, cond, ◌&&◌, eqb, ltb, leb, List, [], ◌∷◌, ◌++◌, length, get_or, take, drop, set, Some, None, sym, refl, ap, ◌∙◌, subst, inl, inr, arith, length-set}
+use Rattle.std.proofs.Common.{◌≡◌, ℕ, zero, suc, ◌+◌, ◌-◌, ◌*◌, ◌<◌, ◌≤◌, true, cond, ◌&&◌, eqb, ltb, leb, List, [], ◌∷◌, ◌++◌, length, get_or, drop, set, Some, None, sym, refl, ap, ◌∙◌, subst, inl, inr, arith, length-set}
 use Rattle.std.proofs.lemmas.Bool.{cases_eq, cases_lt, cond-true, cond-false, eq-eqb, ne_eqb, lt-ltb, le-ltb, le-leb, lt-leb, and_from, and_right}
 use Rattle.std.proofs.lemmas.List.{get_or_at, get_or_append_left, get_or-set_same, get_or-set_other, drop-set-lt}
-use Rattle.rings.specs.Rings.{next, prev, ring, at, drop_at, without, inside, knotted, Held, Place, unlinked, linked, swapped, cut_out, put_in, shifted, brought, swapped_out, slot_after, scattered}
+use Rattle.rings.specs.Rings.{next, prev, ring, inside, knotted, Held, Place, unlinked, linked, swapped, cut_out, put_in, shifted, brought, swapped_out, slot_after, scattered}
 use Rattle.rings.specs.Laws.{RingLaws}
 use Rattle.rings.proofs.Shifts.{slot_at, out_held, last_slot, h2, cuts, swaps, first_is, next_is, push_ring, push_held, push_drop, moved_ring, moved_held, moved_drop, rings_apart, lone_ring, lone_held}
 
@@ -140,10 +140,10 @@ scattered_alone (suc n) ws h k l =
 
 pub ring_laws : RingLaws
 ring_laws = record {
-  cuts = λ heads nodes ws s l h a b k. subst (λ (v : List ℕ). (ring heads nodes v l ≡ without s (ring heads nodes ws l)) × (Held heads nodes v × (drop (2 * nodes) v ≡ drop (2 * nodes) ws))) (sym (cut_is heads nodes ws h s b)) (let c = cuts heads nodes ws h s a b in (c.rings' l k, (c.held', c.drop')));
-  pushes = λ heads nodes ws h s l w a b c d k. subst (λ (v : List ℕ). (ring heads nodes v l ≡ at (ring heads nodes ws) h (ring heads nodes ws h ++ (s ∷ [])) l) × (Held heads nodes v × (drop (2 * nodes) v ≡ drop (2 * nodes) ws))) (sym (put_is heads nodes ws w h s (let z = w.0.0 in omega arith) c)) (push_ring heads nodes ws w h s a b c d l k, (push_held heads nodes ws w h s a b c d, push_drop heads nodes ws w h s a b c d));
-  shifts = λ heads nodes ws m i x h l p a k. subst (λ (v : List ℕ). (ring heads nodes v l ≡ at (at (ring heads nodes ws) m (drop_at i (ring heads nodes ws m))) h (at (ring heads nodes ws) m (drop_at i (ring heads nodes ws m)) h ++ (x ∷ [])) l) × (Held heads nodes v × (drop (2 * nodes) v ≡ drop (2 * nodes) ws))) (sym (shifted_is heads nodes ws m i x h p (let z = p.held.0.0 in omega arith))) (moved_ring heads nodes ws p.held m i p.head p.within h a x p.is l k, (moved_held heads nodes ws p.held m i p.head p.within h a x p.is, moved_drop heads nodes ws p.held m i p.head p.within h a x p.is));
-  swaps = λ heads nodes ws m i x l p k. subst (λ (v : List ℕ). (ring heads nodes v l ≡ at (ring heads nodes ws) m (set (take (length (ring heads nodes ws m) - 1) (ring heads nodes ws m)) i (get_or (ring heads nodes ws m) (length (ring heads nodes ws m) - 1) 0)) l) × (Held heads nodes v × (drop (2 * nodes) v ≡ drop (2 * nodes) ws))) (ap (swapped ws m) p.is ∙ sym (swapped_is heads nodes ws m i x p)) (let c = swaps heads nodes ws p.held m i p.head p.within in (c.rings' l k, (c.held', c.drop')));
+  cuts = λ heads nodes ws s l h a b k. rw (cut_is heads nodes ws h s b) (let c = cuts heads nodes ws h s a b in (c.rings' l k, (c.held', c.drop')));
+  pushes = λ heads nodes ws h s l w a b c d k. rw (put_is heads nodes ws w h s (let z = w.0.0 in omega arith) c) (push_ring heads nodes ws w h s a b c d l k, (push_held heads nodes ws w h s a b c d, push_drop heads nodes ws w h s a b c d));
+  shifts = λ heads nodes ws m i x h l p a k. rw (shifted_is heads nodes ws m i x h p (let z = p.held.0.0 in omega arith)) (moved_ring heads nodes ws p.held m i p.head p.within h a x p.is l k, (moved_held heads nodes ws p.held m i p.head p.within h a x p.is, moved_drop heads nodes ws p.held m i p.head p.within h a x p.is));
+  swaps = λ heads nodes ws m i x l p k. rw (swapped_is heads nodes ws m i x p, ← p.is) (let c = swaps heads nodes ws p.held m i p.head p.within in (c.rings' l k, (c.held', c.drop')));
   first = λ heads nodes ws l h k. after_head heads nodes ws h l k;
   next_one = λ heads nodes ws l i x p. after_slot heads nodes ws p.held l p.head i x p.within p.is;
   scatters = λ heads nodes ws l a b k.

@@ -1,8 +1,8 @@
 -- A list of different numbers below n has at most n of them. Assumes nothing.
-use Rattle.std.proofs.Common.{◌≡◌, ℕ, zero, suc, ◌+◌, ◌<◌, ◌≤◌, eqb, List, [], ◌∷◌, ◌++◌, length, get_or, sym, refl, ap, ◌∙◌, subst, inl, inr, arith}
+use Rattle.std.proofs.Common.{◌≡◌, ℕ, zero, suc, ◌+◌, ◌<◌, ◌≤◌, not, eqb, List, [], ◌∷◌, ◌++◌, length, get_or, sym, refl, ap, ◌∙◌, subst, inl, inr, arith}
 use Rattle.std.specs.List.{AllByRecursion}
 use Rattle.std.proofs.lemmas.Bool.{cases_eq, cond_both, cond-true, cond-false, eq-eqb, ne_eqb}
-use Rattle.std.proofs.ByRecursion.{All-get_or, All-from_get_or}
+use Rattle.std.proofs.ByRecursion.{All-get_or, All-from_get_or, all_kept_by}
 use Rattle.rings.specs.Rings.{Path, without, before, Apart, Lacks, Differ}
 use Rattle.rings.proofs.Paths.{path_prev, without_here, without_other}
 
@@ -25,19 +25,14 @@ without_lacks s [] h = refl
 without_lacks s (x ∷ xs) h = without_other s x xs h.0 ∙ ap (λ (ys : List ℕ). x ∷ ys) (without_lacks s xs h.1)
 
 pub without_all : (P : ℕ → Type 0) (s : ℕ) (xs : List ℕ) → AllByRecursion P xs → AllByRecursion P (without s xs)
-without_all P s [] h = tt
-without_all P s (x ∷ xs) h =
-    elim (cases_eq x s) [
-      | inl e ↦ subst (AllByRecursion P) (sym (without_here s x xs e)) (without_all P s xs h.1)
-      | inr ne ↦ subst (AllByRecursion P) (sym (without_other s x xs ne)) (h.0, without_all P s xs h.1)
-    ]
+without_all P s xs h = all_kept_by (λ x. not (eqb x s)) P xs h
 
 pub without_gone : (s : ℕ) (xs : List ℕ) → Lacks s (without s xs)
 without_gone s [] = tt
 without_gone s (x ∷ xs) =
     elim (cases_eq x s) [
-      | inl e ↦ subst (Lacks s) (sym (without_here s x xs e)) (without_gone s xs)
-      | inr ne ↦ subst (Lacks s) (sym (without_other s x xs ne)) (ne, without_gone s xs)
+      | inl e ↦ rw (without_here s x xs e) (without_gone s xs)
+      | inr ne ↦ rw (without_other s x xs ne) (ne, without_gone s xs)
     ]
 
 without_differ : (s : ℕ) (xs : List ℕ) → Differ xs → Differ (without s xs)

@@ -155,7 +155,7 @@ module _ (heads nodes : ℕ) (ws vs : List ℕ) (held : Held heads nodes ws) (lo
           let b : next vs (prev ws n) ≡ n = (same (prev ws n) k.0.1).0 ∙ k.1.0 in
           let c : prev vs (next ws n) ≡ n = (same (next ws n) k.0.0).1 ∙ k.1.1 in
           (((let z = k.0.0 in let y = a.0 in omega arith), (let z = k.0.1 in let y = a.1 in omega arith)), (ap (next vs) a.1 ∙ b, ap (prev vs) a.0 ∙ c)),
-      λ l h. subst (λ (xs : List ℕ). Path (next vs) (prev vs) l xs l) (sym (same_ring l h)) (kept_path l h),
+      λ l h. rw (same_ring l h) (kept_path l h),
     ),
   )
 
@@ -175,7 +175,7 @@ module _ (heads nodes : ℕ) (ws : List ℕ) (le : heads ≤ nodes) (long : 2 * 
       λ n h.
           let a = alone n h in
           (((let z = a.0 in omega arith), (let z = a.1 in omega arith)), (ap (next ws) a.1 ∙ a.0, ap (prev ws) a.0 ∙ a.1)),
-      λ l h. subst (λ (xs : List ℕ). Path (next ws) (prev ws) l xs l) (sym (lone_ring l h)) (lone_path l h),
+      λ l h. rw (lone_ring l h) (lone_path l h),
     ),
   )
 

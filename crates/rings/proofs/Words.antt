@@ -1,5 +1,5 @@
 -- Rings in words, and what the two writers do to them. Assumes nothing.
-use Rattle.std.proofs.Common.{◌≡◌, ℕ, zero, suc, ◌+◌, ◌*◌, ◌<◌, ◌≤◌, ltb, List, [], ◌∷◌, length, get_or, drop, set, sym, refl, ap, ◌∙◌, subst, inl, inr, arith, length-set}
+use Rattle.std.proofs.Common.{◌≡◌, ℕ, zero, suc, ◌+◌, ◌*◌, ◌<◌, ◌≤◌, ltb, List, [], ◌∷◌, length, get_or, drop, set, sym, refl, ap, ◌∙◌, inl, inr, arith, length-set}
 use Rattle.std.specs.List.{AllByRecursion}
 use Rattle.std.proofs.lemmas.Bool.{cases_eq, cond_both}
 use Rattle.std.proofs.lemmas.List.{get_or-set_same, get_or-set_other, drop-set-lt}
@@ -168,7 +168,7 @@ module _ (heads nodes : ℕ) (ws : List ℕ) (held : Held heads nodes ws) (s : �
 
     pub unlinked_held : Held heads nodes (unlinked ws s)
     unlinked_held =
-        ((held.0.0, (let a = held.0.1 in let b = unlinked_length in omega arith)), (unlinked_knit, λ l h. subst (λ (xs : List ℕ). Path (next (unlinked ws s)) (prev (unlinked ws s)) l xs l) (sym (unlinked_ring l h)) (unlinked_path l h)))
+        ((held.0.0, (let a = held.0.1 in let b = unlinked_length in omega arith)), (unlinked_knit, λ l h. rw (unlinked_ring l h) (unlinked_path l h)))
 
 -- s, which stands alone, is put before n
 module _ (heads nodes : ℕ) (ws : List ℕ) (held : Held heads nodes ws) (n s : ℕ) (at : n < nodes) (within : s < nodes) (other : n ≡ s → ⊥) (alone : next ws s ≡ s) where
@@ -237,4 +237,4 @@ module _ (heads nodes : ℕ) (ws : List ℕ) (held : Held heads nodes ws) (n s :
 
     pub linked_held : Held heads nodes (linked ws n s)
     linked_held =
-        ((held.0.0, (let a = held.0.1 in let b = linked_length in omega arith)), (linked_knit, λ l h. subst (λ (xs : List ℕ). Path (next (linked ws n s)) (prev (linked ws n s)) l xs l) (sym (linked_ring l h)) (linked_path l h)))
+        ((held.0.0, (let a = held.0.1 in let b = linked_length in omega arith)), (linked_knit, λ l h. rw (linked_ring l h) (linked_path l h)))

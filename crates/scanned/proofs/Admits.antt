@@ -68,7 +68,7 @@ module _ (room : ℕ) (ix : Bool) (ws vs : List ℕ) (w : Whole room ix ws) (som
   ring0 = same_ring 2051 N ws vs w.held (let a = w.long in let b = wr.long in omega arith) links
 
   in0 : 0 < length (rg room vs 2048)
-  in0 = subst (λ (ys : List ℕ). 0 < length ys) (sym (ring0 2048 (omega arith))) place.0
+  in0 = rw (ring0 2048 (omega arith)) place.0
 
   is0 : get_or (rg room vs 2048) 0 0 ≡ x
   is0 = ap (λ (ys : List ℕ). get_or ys 0 0) (ring0 2048 (omega arith)) ∙ place.1
@@ -169,8 +169,8 @@ module _ (room : ℕ) (ix : Bool) (ws vs : List ℕ) (w : Whole room ix ws) (som
   owned : (P : ℕ → ℕ → Type 0) → ((l : ℕ) → l < 2048 → AllByRecursion (P l) (Q l)) → P l0 x → (l : ℕ) → l < 2048 → AllByRecursion (P l) (rg room us l)
   owned P old new l h =
       elim (cases_eq l l0) [
-        | inl e ↦ subst (AllByRecursion (P l)) (sym (ring_own l e)) (All-push (P l) (Q l0) x (subst (λ (m : ℕ). AllByRecursion (P l) (Q m)) e (old l h)) (subst (λ (m : ℕ). P m x) (sym e) new))
-        | inr n ↦ subst (AllByRecursion (P l)) (sym (ring_else l (omega arith) n (λ q. omega arith))) (old l h)
+        | inl e ↦ rw (ring_own l e) (All-push (P l) (Q l0) x (subst (λ (m : ℕ). AllByRecursion (P l) (Q m)) e (old l h)) (rw e new))
+        | inr n ↦ rw (ring_else l (omega arith) n (λ q. omega arith)) (old l h)
       ]
 
   admit_total : total 2048 (λ l. length (rg room us l)) ≡ total 2048 (λ l. length (Q l)) + 1
@@ -191,15 +191,15 @@ module _ (room : ℕ) (ix : Bool) (ws vs : List ℕ) (w : Whole room ix ws) (som
         low = λ l h. elim (cases_lt l 2048) [
           | inl lt ↦ owned (λ l y. y < 2051 + room) (λ l h. w.low l (omega arith)) sx1 l lt
           | inr ge ↦ elim (cases_eq l 2048) [
-            | inl e ↦ subst (λ (m : ℕ). AllByRecursion (λ y. y < 2051 + room) (rg room us m)) (sym e) (subst (AllByRecursion (λ y. y < 2051 + room)) (sym ring_free) (drop_at_all (λ y. y < 2051 + room) 0 (Q 2048) (w.low 2048 (omega arith))))
-            | inr n ↦ subst (AllByRecursion (λ y. y < 2051 + room)) (sym (ring_else l (omega arith) (λ q. omega arith) n)) (w.low l h)
+            | inl e ↦ rw e (rw ring_free (drop_at_all (λ y. y < 2051 + room) 0 (Q 2048) (w.low 2048 (omega arith))))
+            | inr n ↦ rw (ring_else l (omega arith) (λ q. omega arith) n) (w.low l h)
           ]
         ];
-        high = subst (AllByRecursion (λ n. 2051 + room ≤ n)) (sym (ring_else 2050 (omega arith) (λ q. omega arith) (λ q. omega arith))) w.high;
+        high = rw (ring_else 2050 (omega arith) (λ q. omega arith) (λ q. omega arith)) w.high;
         sizes = owned (λ l y. get_or us (text_at room y) 0 < 33) (λ l h. each (λ y. get_or ws (text_at room y) 0 < 33) (λ y. get_or us (text_at room y) 0 < 33) l h (λ y a b n p. let e = size_same y a b n in omega arith) (w.sizes l h)) (let e = size_here in let f = wl.short in omega arith);
         wells = owned (λ l y. well_formed (text_of room us y) ≡ true) (λ l h. each (λ y. (get_or ws (text_at room y) 0 < 33) × (well_formed (text_of room ws y) ≡ true)) (λ y. well_formed (text_of room us y) ≡ true) l h (λ y a b n p. ap well_formed (text_stays y a b n p.0) ∙ p.1) (both (λ y. get_or ws (text_at room y) 0 < 33) (λ y. well_formed (text_of room ws y) ≡ true) (Q l) (w.sizes l h) (w.wells l h))) (ap well_formed text_here ∙ good);
         ends = owned (λ l y. last (text_of room us y) ≡ l) (λ l h. each (λ y. (get_or ws (text_at room y) 0 < 33) × (last (text_of room ws y) ≡ l)) (λ y. last (text_of room us y) ≡ l) l h (λ y a b n p. ap last (text_stays y a b n p.0) ∙ p.1) (both (λ y. get_or ws (text_at room y) 0 < 33) (λ y. last (text_of room ws y) ≡ l) (Q l) (w.sizes l h) (w.ends l h))) (ap last text_here);
-        spans = subst (AllByRecursion (λ n. (get_or us (text_at room (n - room)) 0 < 33) × (get_or us (text_at room (n - room) + 1) 0 < 33))) (sym (ring_else 2050 (omega arith) (λ q. omega arith) (λ q. omega arith))) (each_seq (λ y. (get_or ws (text_at room y) 0 < 33) × (get_or ws (text_at room y + 1) 0 < 33)) (λ y. (get_or us (text_at room y) 0 < 33) × (get_or us (text_at room y + 1) 0 < 33)) (λ y a b n p. let e = size_same y a b n in let f = block y a b n (text_at room y + 1) (omega arith) (omega arith) in let p0 = p.0 in let p1 = p.1 in (omega arith, omega arith)) w.spans);
+        spans = rw (ring_else 2050 (omega arith) (λ q. omega arith) (λ q. omega arith)) (each_seq (λ y. (get_or ws (text_at room y) 0 < 33) × (get_or ws (text_at room y + 1) 0 < 33)) (λ y. (get_or us (text_at room y) 0 < 33) × (get_or us (text_at room y + 1) 0 < 33)) (λ y a b n p. let e = size_same y a b n in let f = block y a b n (text_at room y + 1) (omega arith) (omega arith) in let p0 = p.0 in let p1 = p.1 in (omega arith, omega arith)) w.spans);
         sized =
             let t = admit_total in
             let f : length (rg room us 2048) ≡ length (Q 2048) - 1 = ap length ring_free ∙ drop_at_length 0 (Q 2048) place.0 in
@@ -207,12 +207,12 @@ module _ (room : ℕ) (ix : Bool) (ws vs : List ℕ) (w : Whole room ix ws) (som
             let z = w.sized in
             let p0 = place.0 in
             omega arith;
-        loose = subst (AllByRecursion (λ y. next us (y + room) ≡ y + room)) (sym ring_free) (drop_at_all (λ y. next us (y + room) ≡ y + room) 0 (Q 2048) (All-from_get_or (λ y. next us (y + room) ≡ y + room) (Q 2048) 0 (λ i k.
+        loose = rw ring_free (drop_at_all (λ y. next us (y + room) ≡ y + room) 0 (Q 2048) (All-from_get_or (λ y. next us (y + room) ≡ y + room) (Q 2048) 0 (λ i k.
             let a = (slot_at 2051 N ws w.held 2048 i (omega arith) k).0 in
             let b = All-get_or (λ y. y < 2051 + room) (Q 2048) i 0 k (w.low 2048 (omega arith)) in
             stays (get_or (Q 2048) i 0 + room) (omega arith) (omega arith) (All-get_or (λ y. next ws (y + room) ≡ y + room) (Q 2048) i 0 k w.loose))));
         joins = λ n g h lk. stays n (omega arith) h (w.joins n g h (subst (Lacks n) (ring_else 2050 (omega arith) (λ q. omega arith) (λ q. omega arith)) lk));
-        used = subst (AllByRecursion (λ n. any_to 2048 (λ k. passes room us k (n - room)) ≡ true)) (sym (ring_else 2050 (omega arith) (λ q. omega arith) (λ q. omega arith))) (each_seq (λ y. ((get_or ws (text_at room y) 0 < 33) × (get_or ws (text_at room y + 1) 0 < 33)) × (any_to 2048 (λ k. passes room ws k y) ≡ true)) (λ y. any_to 2048 (λ k. passes room us k y) ≡ true) (λ y a b n p. passes_same room ws us y (text_stays y a b n p.0.0) (was_same room ws us y us_length (block y a b n) p.0.1) ∙ p.1) (both (λ n. (get_or ws (text_at room (n - room)) 0 < 33) × (get_or ws (text_at room (n - room) + 1) 0 < 33)) (λ n. any_to 2048 (λ k. passes room ws k (n - room)) ≡ true) (Q 2050) w.spans w.used));
+        used = rw (ring_else 2050 (omega arith) (λ q. omega arith) (λ q. omega arith)) (each_seq (λ y. ((get_or ws (text_at room y) 0 < 33) × (get_or ws (text_at room y + 1) 0 < 33)) × (any_to 2048 (λ k. passes room ws k y) ≡ true)) (λ y. any_to 2048 (λ k. passes room us k y) ≡ true) (λ y a b n p. passes_same room ws us y (text_stays y a b n p.0.0) (was_same room ws us y us_length (block y a b n) p.0.1) ∙ p.1) (both (λ n. (get_or ws (text_at room (n - room)) 0 < 33) × (get_or ws (text_at room (n - room) + 1) 0 < 33)) (λ n. any_to 2048 (λ k. passes room ws k (n - room)) ≡ true) (Q 2050) w.spans w.used));
         off = λ e. (ring_else 2049 (omega arith) (λ q. omega arith) (λ q. omega arith) ∙ (w.off e).0, ring_else 2050 (omega arith) (λ q. omega arith) (λ q. omega arith) ∙ (w.off e).1);
       }
     where
@@ -230,14 +230,14 @@ module _ (room : ℕ) (ix : Bool) (ws vs : List ℕ) (w : Whole room ix ws) (som
       record {
         slot = x_slot;
         fresh = own_by (λ l xs. Lacks x xs) room ws (λ l. tt) (λ r l h. subst (λ (y : ℕ). Lacks y (Q l)) place.1 (lacks_other 2051 N ws w.held 2048 0 l (omega arith) (omega arith) place.0 (λ q. omega arith)));
-        unused = subst (Lacks x) (sym (seq_is room ws some)) (all_of_map (λ y. y ≡ x → ⊥) (λ n. n - room) (Q 2050) (each_seq (λ y. Unit {0}) (λ y. y ≡ x → ⊥) (λ y a b n p. n) (All-from_get_or (λ n. Unit {0}) (Q 2050) 0 (λ i k. tt))));
+        unused = rw (seq_is room ws some) (all_of_map (λ y. y ≡ x → ⊥) (λ n. n - room) (Q 2050) (each_seq (λ y. Unit {0}) (λ y. y ≡ x → ⊥) (λ y a b n p. n) (All-from_get_or (λ n. Unit {0}) (Q 2050) 0 (λ i k. tt))));
         owns = own_changed room ws some us l0 (λ ys. ys ++ (x ∷ [])) ll (ring_own l0 refl) (λ l h n. ring_else l (omega arith) n (λ q. omega arith));
         seqs = seq_is room us some ∙ ap (map (λ n. n - room)) (ring_else 2050 (omega arith) (λ q. omega arith) (λ q. omega arith)) ∙ sym (seq_is room ws some);
         deads = dead_is room us some ∙ ap length (ring_else 2049 (omega arith) (λ q. omega arith) (λ q. omega arith)) ∙ sym (dead_is room ws some);
         here = text_here;
         was = was_here;
         same = own_by (λ l xs. AllByRecursion (λ y. text_of room us y ≡ text_of room ws y) xs) room ws (λ l. tt) (λ r l h. each (λ y. get_or ws (text_at room y) 0 < 33) (λ y. text_of room us y ≡ text_of room ws y) l h text_stays (w.sizes l h));
-        sames = subst (AllByRecursion (λ y. (text_of room us y ≡ text_of room ws y) × (was_of room us y ≡ was_of room ws y))) (sym (seq_is room ws some)) (all_of_map (λ y. (text_of room us y ≡ text_of room ws y) × (was_of room us y ≡ was_of room ws y)) (λ n. n - room) (Q 2050) (each_seq (λ y. (get_or ws (text_at room y) 0 < 33) × (get_or ws (text_at room y + 1) 0 < 33)) (λ y. (text_of room us y ≡ text_of room ws y) × (was_of room us y ≡ was_of room ws y)) (λ y a b n p. (text_stays y a b n p.0, was_same room ws us y us_length (block y a b n) p.1)) w.spans));
+        sames = rw (seq_is room ws some) (all_of_map (λ y. (text_of room us y ≡ text_of room ws y) × (was_of room us y ≡ was_of room ws y)) (λ n. n - room) (Q 2050) (each_seq (λ y. (get_or ws (text_at room y) 0 < 33) × (get_or ws (text_at room y + 1) 0 < 33)) (λ y. (text_of room us y ≡ text_of room ws y) × (was_of room us y ≡ was_of room ws y)) (λ y a b n p. (text_stays y a b n p.0, was_same room ws us y us_length (block y a b n) p.1)) w.spans));
         alone = moved_still 2051 N vs held0 2048 0 (omega arith) in0 l0 (omega arith) x is0 (x + room) (let a = x_slot.0 in omega arith) (omega arith) ((links (x + room) (omega arith)).0 ∙ x_loose);
       }
 
@@ -252,7 +252,7 @@ module _ (room : ℕ) (ix : Bool) (ws vs : List ℕ) (w : Whole room ix ws) (som
   admit_loose = record {
     slot = x_slot;
     alone = admit_is.alone;
-    busy = subst (Lacks x) (sym ring_free) (subst (λ (y : ℕ). Lacks y (drop_at 0 (Q 2048))) place.1 (drop_at_out 0 (Q 2048) place.0 (ring_differ 2051 N ws w.held 2048 (omega arith))));
+    busy = rw ring_free (subst (λ (y : ℕ). Lacks y (drop_at 0 (Q 2048))) place.1 (drop_at_out 0 (Q 2048) place.0 (ring_differ 2051 N ws w.held 2048 (omega arith))));
     sizes = let a = size_here in let b = was_size in let f = wl.short in (omega arith, omega arith);
   }
 

@@ -102,8 +102,8 @@ module _ (room : ℕ) (ix : Bool) (ws : List ℕ) (s : Sound room ix ws) (r : 0 
       let ow = own_is room ws l r h in
       let n : length ((meaning_of room ix ws).own l) ≡ length (rg room ws l) = length-map (own_of room ws l) (text_of room ws) ∙ ap length ow in
       elim (cases_lt j (length (rg room ws l))) [
-        | inl lt ↦ subst (Says j) (sym (e ∙ cond-true (ltb j (length (rg room ws l))) (Some (get_or (rg room ws l) j 0)) None (lt-ltb j (length (rg room ws l)) lt))) ((subst (λ (ys : List ℕ). j < length ys) (sym ow) lt, ap (λ (ys : List ℕ). get_or ys j 0) ow), omega arith)
-        | inr ge ↦ subst (Says j) (sym (e ∙ cond-false (ltb j (length (rg room ws l))) (Some (get_or (rg room ws l) j 0)) None (le-ltb j (length (rg room ws l)) ge))) (omega arith)
+        | inl lt ↦ rw (e ∙ cond-true (ltb j (length (rg room ws l))) (Some (get_or (rg room ws l) j 0)) None (lt-ltb j (length (rg room ws l)) lt)) ((rw ow lt, ap (λ (ys : List ℕ). get_or ys j 0) ow), omega arith)
+        | inr ge ↦ rw (e ∙ cond-false (ltb j (length (rg room ws l))) (Some (get_or (rg room ws l) j 0)) None (le-ltb j (length (rg room ws l)) ge)) (omega arith)
       ]
 
   pub next_says : (k i : ℕ) → At room ws k l i → (o : Option ℕ) → o ≡ slot_after 2051 ws k → Says (i + 1) o

@@ -53,7 +53,7 @@ module _ (s : Scanned) (l i x : ℕ) (a : At s.room s.words.now x l i) where
     taken_kept h =
         let q = s.alive in
         let t : total 2048 (λ m. length (own_of s.room vs m)) + 1 ≡ total 2048 (λ m. length (own_of s.room ws m)) = ap (λ (us : List ℕ). total 2048 (λ m. length (own_of s.room us m)) + 1) words ∙ remove_live s.room s.indexed ws whole some l i x a in
-        kept s.room s.indexed vs (s.live - 1) s.small (omega arith) (λ r. subst (Whole s.room s.indexed) (sym words) (remove_whole s.room s.indexed ws whole some l i x a (remove_length s.room s.indexed ws whole some l i x a)))
+        kept s.room s.indexed vs (s.live - 1) s.small (omega arith) (λ r. rw words (remove_whole s.room s.indexed ws whole some l i x a (remove_length s.room s.indexed ws whole some l i x a)))
         (subst Lawful (sym taken_meaning) (removed_lawful l i (means s) (lawful s) h))
 
   -- order kept
@@ -68,7 +68,7 @@ module _ (s : Scanned) (l i x : ℕ) (a : At s.room s.words.now x l i) where
     put_kept h' =
         let q = s.alive in
         let t : total 2048 (λ m. length (own_of s.room vs m)) + 1 ≡ total 2048 (λ m. length (own_of s.room ws m)) = ap (λ (us : List ℕ). total 2048 (λ m. length (own_of s.room us m)) + 1) moved ∙ retire_live s.room s.indexed ws whole some l i x a h to in
-        kept s.room s.indexed vs (s.live - 1) s.small (omega arith) (λ r. subst (Whole s.room s.indexed) (sym moved) (retire_whole s.room s.indexed ws whole some l i x a h to))
+        kept s.room s.indexed vs (s.live - 1) s.small (omega arith) (λ r. rw moved (retire_whole s.room s.indexed ws whole some l i x a h to))
         (subst Lawful (sym put_meaning) (retired_lawful l i (means s) (lawful s) h'))
 
 -- words made anew
@@ -91,7 +91,7 @@ module _ (s : Scanned) (some : 0 < s.room) (vs : List ℕ) (w : Whole s.room tru
       (subst Lawful (sym dropped_meaning) (index_off_lawful (means s) (lawful s)))
 
   pub dropped_keeps : (h l i : ℕ) → At s.room s.words.now h l i → At s.room vs h l i
-  dropped_keeps h l i a = let e = off_owns s.room s.indexed s.words.now vs some k none gone l in subst (λ (ys : List ℕ). (i < length ys) × (get_or ys i 0 ≡ h)) (sym e) a
+  dropped_keeps h l i a = let e = off_owns s.room s.indexed s.words.now vs some k none gone l in rw e a
 
 -- with no room
 module _ (s : Scanned) (z : s.room ≤ 0) where
@@ -120,10 +120,10 @@ module _ (s : Scanned) (some : 0 < s.room) (x : ℕ) (c : List ℕ) (place : (0 
     is = e ∙ admit_words s.room s.indexed old us (stands s some) some x c place good (formed_parts c good) wr h ends
 
     admitted : Admitted s.room old vs x c
-    admitted = subst (λ (v : List ℕ). Admitted s.room old v x c) (sym is) (admit_is s.room s.indexed old us (stands s some) some x c place good (formed_parts c good) wr)
+    admitted = rw is (admit_is s.room s.indexed old us (stands s some) some x c place good (formed_parts c good) wr)
 
     held : Whole s.room s.indexed vs
-    held = subst (Whole s.room s.indexed) (sym is) (admit_whole s.room s.indexed old us (stands s some) some x c place good (formed_parts c good) wr)
+    held = rw is (admit_whole s.room s.indexed old us (stands s some) some x c place good (formed_parts c good) wr)
 
     more : total 2048 (λ l. length (own_of s.room vs l)) ≡ total 2048 (λ l. length (own_of s.room old l)) + 1
     more = ap (λ (v : List ℕ). total 2048 (λ l. length (own_of s.room v l))) is ∙ admit_live s.room s.indexed old us (stands s some) some x c place good (formed_parts c good) wr
@@ -140,12 +140,12 @@ module _ (s : Scanned) (some : 0 < s.room) (x : ℕ) (c : List ℕ) (place : (0 
 
     entered_both : (zs : List ℕ) → zs ≡ put_in vs 2050 (x + s.room) → s.indexed ≡ true → 1 < length c → Entered s x c zs
     entered_both zs g on two =
-        let lo = subst (λ (v : List ℕ). Loose s.room v x) (sym is) (admit_loose s.room s.indexed old us (stands s some) some x c place good (formed_parts c good) wr) in
+        let lo : Loose s.room vs x = rw is (admit_loose s.room s.indexed old us (stands s some) some x c place good (formed_parts c good) wr) in
         let u = admitted_uses s.room old vs x c admitted good (omega arith) (formed_parts c good).some in
         let p = g ∙ join_put s.room s.indexed vs held some x lo on u in
-        let j : Joined s.room vs zs x = subst (λ (v : List ℕ). Joined s.room vs v x) (sym p) (join_is s.room s.indexed vs held some x lo on u) in
+        let j : Joined s.room vs zs x = rw p (join_is s.room s.indexed vs held some x lo on u) in
         record {
-          whole = subst (Whole s.room s.indexed) (sym p) (join_whole s.room s.indexed vs held some x lo on u);
+          whole = rw p (join_whole s.room s.indexed vs held some x lo on u);
           count = joined_total s.room vs zs x j ∙ more;
           meaning = joined_meaning s.room s.indexed old vs x c admitted zs j on (formed_parts c good).order;
           owns = λ l. j.owns l ∙ admitted.owns l;
@@ -153,7 +153,7 @@ module _ (s : Scanned) (some : 0 < s.room) (x : ℕ) (c : List ℕ) (place : (0 
 
     -- with no index or one literal, and else at the end of the sequence too
     pub entered_as : (zs : List ℕ) → ((zs ≡ vs) × ((s.indexed ≡ false) ⊎ (length c ≤ 1))) ⊎ ((zs ≡ put_in vs 2050 (x + s.room)) × ((s.indexed ≡ true) × (1 < length c))) → Entered s x c zs
-    entered_as zs q = elim q [ inl p ↦ subst (Entered s x c) (sym p.0) (entered_alone p.1) | inr p ↦ entered_both zs p.0 p.1.0 p.1.1 ]
+    entered_as zs q = elim q [ inl p ↦ rw p.0 (entered_alone p.1) | inr p ↦ entered_both zs p.0 p.1.0 p.1.1 ]
 
   module _ (zs : List ℕ) (n : Entered s x c zs) where
     pub entered_kept : Kept s.room s.indexed zs (s.live + 1)
@@ -163,11 +163,11 @@ module _ (s : Scanned) (some : 0 < s.room) (x : ℕ) (c : List ℕ) (place : (0 
     entered_keeps h l i a =
         let own = own_of s.room old in
         let long = own (last c) ++ (x ∷ []) in
-        subst (λ (ys : List ℕ). (i < length ys) × (get_or ys i 0 ≡ h)) (sym (n.owns l)) (elim (cases_eq l (last c)) [
+        rw (n.owns l) (elim (cases_eq l (last c)) [
           | inl q ↦
               let p : i < length (own (last c)) = subst (λ (m : ℕ). i < length (own m)) q a.0 in
               let g : get_or (own (last c)) i 0 ≡ h = ap (λ (m : ℕ). get_or (own m) i 0) (sym q) ∙ a.1 in
               let k = length_push (own (last c)) x in
-              subst (λ (ys : List ℕ). (i < length ys) × (get_or ys i 0 ≡ h)) (sym (at_here own (last c) long l q)) (omega arith, get_or_append_left (own (last c)) (x ∷ []) 0 i p ∙ g)
-          | inr ne ↦ subst (λ (ys : List ℕ). (i < length ys) × (get_or ys i 0 ≡ h)) (sym (at_else own (last c) long l ne)) a
+              rw (at_here own (last c) long l q) (omega arith, get_or_append_left (own (last c)) (x ∷ []) 0 i p ∙ g)
+          | inr ne ↦ rw (at_else own (last c) long l ne) a
         ])

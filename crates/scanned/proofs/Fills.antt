@@ -1,5 +1,5 @@
 -- The words of a new store. Assumes nothing.
-use Rattle.std.proofs.Common.{◌≡◌, ℕ, ◌+◌, ◌-◌, ◌*◌, ◌<◌, ◌≤◌, Bool, true, false, not, ◌&&◌, eqb, leb, ltb, List, [], ◌∷◌, ◌++◌, map, length, get_or, filter, sym, refl, ap, ◌∙◌, subst, inl, inr, arith}
+use Rattle.std.proofs.Common.{◌≡◌, ℕ, ◌+◌, ◌-◌, ◌*◌, ◌<◌, ◌≤◌, Bool, true, false, not, ◌&&◌, eqb, leb, ltb, List, [], ◌∷◌, ◌++◌, map, length, get_or, filter, sym, refl, ap, ◌∙◌, inl, inr, arith}
 use Rattle.std.specs.List.{AllByRecursion}
 use Rattle.std.proofs.lemmas.Bool.{cond-true, cond-false, lt-ltb, le-ltb, cases_lt, cases_eq}
 use Rattle.std.proofs.lemmas.List.{length_push}
@@ -30,7 +30,7 @@ filled_none room ws long a =
       held = lone_held 2051 (node_count room) ws (omega arith) long a;
       others = λ l h n. e l h;
       sized = ap length (e 2048 (omega arith));
-      low = subst (AllByRecursion (λ x. x < 2051 + 0)) (sym (e 2048 (omega arith))) tt;
+      low = rw (e 2048 (omega arith)) tt;
       alone = λ n g h. (a n h).0;
     }
 
@@ -43,20 +43,20 @@ filled_more room ws vs i h f e =
       held = push_held 2051 (node_count room) ws f.held 2048 (2051 + i) (omega arith) (omega arith) (omega arith) al;
       others = λ l k n. r l k ∙ at_else (rg room ws) 2048 (rg room ws 2048 ++ ((2051 + i) ∷ [])) l n ∙ f.others l k n;
       sized = ap length one ∙ length_push (rg room ws 2048) (2051 + i) ∙ ap (λ (k : ℕ). k + 1) f.sized;
-      low = subst (AllByRecursion (λ x. x < 2051 + (i + 1))) (sym one) (All-push (λ x. x < 2051 + (i + 1)) (rg room ws 2048) (2051 + i) (All-weaker (λ x. x < 2051 + i) (λ x. x < 2051 + (i + 1)) (λ x q. omega arith) (rg room ws 2048) f.low) (omega arith));
+      low = rw one (All-push (λ x. x < 2051 + (i + 1)) (rg room ws 2048) (2051 + i) (All-weaker (λ x. x < 2051 + i) (λ x. x < 2051 + (i + 1)) (λ x q. omega arith) (rg room ws 2048) f.low) (omega arith));
       alone = λ n g k. push_still 2051 (node_count room) ws f.held 2048 (2051 + i) (omega arith) (omega arith) (omega arith) al n k (λ q. omega arith) (f.alone n (omega arith) k) (λ q. omega arith);
     } in
-    subst (λ (us : List ℕ). Filled room us (i + 1)) (sym e) made
+    rw e made
 
 module _ (room : ℕ) (ws : List ℕ) (f : Filled room ws room) where
   none : (P : ℕ → Type 0) (l : ℕ) → l < 2051 → (l ≡ 2048 → ⊥) → AllByRecursion P (rg room ws l)
-  none P l h n = subst (AllByRecursion P) (sym (f.others l h n)) tt
+  none P l h n = rw (f.others l h n) tt
 
   pub filled_whole : 2 * node_count room + 34 * room ≤ length ws → Whole room false ws
   filled_whole long = record {
     long = long;
     held = f.held;
-    low = λ l h. elim (cases_eq l 2048) [ inl e ↦ subst (λ (k : ℕ). AllByRecursion (λ x. x < 2051 + room) (rg room ws k)) (sym e) f.low | inr n ↦ none (λ x. x < 2051 + room) l (omega arith) n ];
+    low = λ l h. elim (cases_eq l 2048) [ inl e ↦ rw e f.low | inr n ↦ none (λ x. x < 2051 + room) l (omega arith) n ];
     high = none (λ n. 2051 + room ≤ n) 2050 (omega arith) (λ q. omega arith);
     sizes = λ l h. none (λ x. get_or ws (text_at room x) 0 < 33) l (omega arith) (λ q. omega arith);
     wells = λ l h. none _ l (omega arith) (λ q. omega arith);
@@ -91,7 +91,7 @@ bare_blank ws = same_meaning 0 false _ _ _ _ _ 0 (λ l. ap (map (text_of 0 ws)) 
 pub filled_scattered : (room : ℕ) (ws vs : List ℕ) → 2 * node_count room ≤ length ws → vs ≡ scattered (node_count room) ws → Filled room vs 0
 filled_scattered room ws vs long e =
     let l = scattered_length (node_count room) ws in
-    subst (λ (us : List ℕ). Filled room us 0) (sym e) (filled_none room (scattered (node_count room) ws) (omega arith) (scattered_alone (node_count room) ws long))
+    rw e (filled_none room (scattered (node_count room) ws) (omega arith) (scattered_alone (node_count room) ws long))
 
 -- what the writer writes
 pub filled_put : (room : ℕ) (ws vs : List ℕ) (i : ℕ) → i < room → Filled room ws i → vs ≡ put_in ws 2048 (2051 + i) → Filled room vs (i + 1)
@@ -113,4 +113,4 @@ pub fitting_means : (room len : ℕ) → fitting room len ≡ true → (2 ≤ ro
 fitting_means room len e = (grind (arith, nat_tests), grind (arith, nat_tests), grind (arith, nat_tests))
 
 pub no_room_blank : (room : ℕ) (ws : List ℕ) → room ≡ 0 → meaning_of room false ws ≡ blank room
-no_room_blank room ws e = subst (λ (r : ℕ). meaning_of r false ws ≡ blank r) (sym e) (bare_blank ws)
+no_room_blank room ws e = rw e (bare_blank ws)

@@ -130,14 +130,14 @@ module _ (room : ℕ) (ix : Bool) (ws : List ℕ) (w : Whole room ix ws) (some :
   join_whole = record {
     long = let a = w.long in let b = long1 in omega arith;
     held = held1;
-    low = λ l h. subst (AllByRecursion (λ y. y < 2051 + room)) (sym (else1 l h)) (w.low l h);
-    high = subst (AllByRecursion (λ m. 2051 + room ≤ m)) (sym seq1) (All-push (λ m. 2051 + room ≤ m) (Q 2050) n w.high (let a = lo.slot.0 in omega arith));
-    sizes = λ l h. subst (AllByRecursion (Short room vs)) (sym (else1 l (omega arith))) (sizes_past room ws vs dropped (Q l) (w.sizes l h));
-    wells = λ l h. subst (AllByRecursion (Well room vs)) (sym (else1 l (omega arith))) (wells_past room ws vs dropped (Q l) (w.wells l h));
-    ends = λ l h. subst (AllByRecursion (Ends room vs l)) (sym (else1 l (omega arith))) (ends_past room ws vs dropped l (Q l) (w.ends l h));
-    spans = subst (AllByRecursion (λ m. Spanned room vs (m - room))) (sym seq1) (All-push (λ m. Spanned room vs (m - room)) (Q 2050) n (spans_past room ws vs dropped (Q 2050) w.spans) (subst (Spanned room vs) here (span_past room ws vs dropped x lo.sizes)));
+    low = λ l h. rw (else1 l h) (w.low l h);
+    high = rw seq1 (All-push (λ m. 2051 + room ≤ m) (Q 2050) n w.high (let a = lo.slot.0 in omega arith));
+    sizes = λ l h. rw (else1 l (omega arith)) (sizes_past room ws vs dropped (Q l) (w.sizes l h));
+    wells = λ l h. rw (else1 l (omega arith)) (wells_past room ws vs dropped (Q l) (w.wells l h));
+    ends = λ l h. rw (else1 l (omega arith)) (ends_past room ws vs dropped l (Q l) (w.ends l h));
+    spans = rw seq1 (All-push (λ m. Spanned room vs (m - room)) (Q 2050) n (spans_past room ws vs dropped (Q 2050) w.spans) (subst (Spanned room vs) here (span_past room ws vs dropped x lo.sizes)));
     sized = let t = total_same 2048 (λ l. length (rg room vs l)) (λ l. length (Q l)) (λ l h. ap length (else1 l (omega arith))) in let a = ap length (else1 2048 (omega arith)) in let b = ap length (else1 2049 (omega arith)) in let z = w.sized in omega arith;
-    loose = subst (AllByRecursion (λ y. next vs (y + room) ≡ y + room)) (sym (else1 2048 (omega arith))) (All-from_get_or (λ y. next vs (y + room) ≡ y + room) (Q 2048) 0 (λ i k.
+    loose = rw (else1 2048 (omega arith)) (All-from_get_or (λ y. next vs (y + room) ≡ y + room) (Q 2048) 0 (λ i k.
         let a = (slot_at 2051 N ws w.held 2048 i (omega arith) k).0 in
         let b = All-get_or (λ y. y < 2051 + room) (Q 2048) i 0 k (w.low 2048 (omega arith)) in
         stays (get_or (Q 2048) i 0 + room) (omega arith) (omega arith) (λ q. All-get_or (λ y. y ≡ x → ⊥) (Q 2048) i 0 k lo.busy (omega arith)) (All-get_or (λ y. next ws (y + room) ≡ y + room) (Q 2048) i 0 k w.loose)));
@@ -146,7 +146,7 @@ module _ (room : ℕ) (ix : Bool) (ws : List ℕ) (w : Whole room ix ws) (some :
         let p = all_append_left (λ y. y ≡ m → ⊥) (Q 2050) (n ∷ []) lk2 in
         let q = (all_append_right (λ y. y ≡ m → ⊥) (Q 2050) (n ∷ []) lk2).0 in
         stays m (omega arith) h (λ e. q (sym e)) (w.joins m g h p);
-    used = subst (AllByRecursion (λ m. InUse room vs (m - room))) (sym seq1) (All-push (λ m. InUse room vs (m - room)) (Q 2050) n (useds_past room ws vs dropped (Q 2050) w.used) (subst (InUse room vs) here (used_past room ws vs dropped x ∙ uses)));
+    used = rw seq1 (All-push (λ m. InUse room vs (m - room)) (Q 2050) n (useds_past room ws vs dropped (Q 2050) w.used) (subst (InUse room vs) here (used_past room ws vs dropped x ∙ uses)));
     off = λ e. absurd (both_ways ix e on);
   }
     where

@@ -1,7 +1,6 @@
 -- The index dropped. Assumes nothing.
 use Rattle.std.proofs.Common.{◌≡◌, ℕ, ◌+◌, ◌-◌, ◌*◌, ◌<◌, ◌≤◌, Bool, true, false, not, ◌&&◌, eqb, ltb, List, [], ◌∷◌, ◌++◌, map, length, get_or, drop, filter, sym, refl, ap, ◌∙◌, subst, inl, inr, arith, length-set}
 use mathlib.Core.Path.{fun_ext}
-use Rattle.std.specs.List.{AllByRecursion}
 use Rattle.std.proofs.lemmas.Bool.{cases_lt, cases_eq, cond-false, le-ltb, both_ways}
 use Rattle.std.proofs.lemmas.List.{length_push}
 use Rattle.std.proofs.ByRecursion.{All-get_or, All-from_get_or, All-push, All-weaker}
@@ -20,7 +19,7 @@ use Rattle.scanned.specs.Layout.{node_count, rg, text_of, was_of, own_of, seq_of
 use Rattle.scanned.proofs.Wholes.{own_same}
 use Rattle.scanned.proofs.Totals.{total_same}
 use Rattle.scanned.proofs.Admits.{seq_is, dead_is}
-use Rattle.scanned.proofs.Joins.{Short, Well, Ends, Spanned, InUse, text_past, sizes_past, wells_past, ends_past, spans_past, useds_past}
+use Rattle.scanned.proofs.Joins.{Spanned, InUse, text_past, sizes_past, wells_past, ends_past, spans_past, useds_past}
 use Rattle.scanned.proofs.Removes.{lacks_without}
 
 pub kin_then : (room : ℕ) (ws vs us : List ℕ) → Kin room ws vs → Kin room vs us → Kin room ws us
@@ -83,21 +82,21 @@ module _ (room : ℕ) (ws : List ℕ) (w : Whole room true ws) (n : ℕ) (at0 : 
   cut_whole = record {
     long = let a = w.long in let b = long1 in omega arith;
     held = c1.held';
-    low = λ l h. subst (AllByRecursion (λ y. y < 2051 + room)) (sym (r1 l h)) (w.low l h);
-    high = subst (AllByRecursion (λ y. 2051 + room ≤ y)) (sym rs) (without_all (λ y. 2051 + room ≤ y) n (Q 2050) w.high);
-    sizes = λ l h. subst (AllByRecursion (Short room vs)) (sym (r1 l (omega arith))) (sizes_past room ws vs c1.drop' (Q l) (w.sizes l h));
-    wells = λ l h. subst (AllByRecursion (Well room vs)) (sym (r1 l (omega arith))) (wells_past room ws vs c1.drop' (Q l) (w.wells l h));
-    ends = λ l h. subst (AllByRecursion (Ends room vs l)) (sym (r1 l (omega arith))) (ends_past room ws vs c1.drop' l (Q l) (w.ends l h));
-    spans = subst (AllByRecursion (λ y. Spanned room vs (y - room))) (sym rs) (without_all (λ y. Spanned room vs (y - room)) n (Q 2050) (spans_past room ws vs c1.drop' (Q 2050) w.spans));
+    low = λ l h. rw (r1 l h) (w.low l h);
+    high = rw rs (without_all (λ y. 2051 + room ≤ y) n (Q 2050) w.high);
+    sizes = λ l h. rw (r1 l (omega arith)) (sizes_past room ws vs c1.drop' (Q l) (w.sizes l h));
+    wells = λ l h. rw (r1 l (omega arith)) (wells_past room ws vs c1.drop' (Q l) (w.wells l h));
+    ends = λ l h. rw (r1 l (omega arith)) (ends_past room ws vs c1.drop' l (Q l) (w.ends l h));
+    spans = rw rs (without_all (λ y. Spanned room vs (y - room)) n (Q 2050) (spans_past room ws vs c1.drop' (Q 2050) w.spans));
     sized = let t = total_same 2048 (λ l. length (rg room vs l)) (λ l. length (Q l)) (λ l h. ap length (r1 l (omega arith))) in let a = ap length (r1 2048 (omega arith)) in let b = ap length (r1 2049 (omega arith)) in let z = w.sized in omega arith;
-    loose = subst (AllByRecursion (λ y. next vs (y + room) ≡ y + room)) (sym (r1 2048 (omega arith))) (All-from_get_or (λ y. next vs (y + room) ≡ y + room) (Q 2048) 0 (λ j k.
+    loose = rw (r1 2048 (omega arith)) (All-from_get_or (λ y. next vs (y + room) ≡ y + room) (Q 2048) 0 (λ j k.
         let q = All-get_or (λ y. y < 2051 + room) (Q 2048) j 0 k (w.low 2048 (omega arith)) in
         c1.still' (get_or (Q 2048) j 0 + room) (omega arith) (All-get_or (λ y. next ws (y + room) ≡ y + room) (Q 2048) j 0 k w.loose)));
     joins = λ m g h lk. elim (cases_eq m n) [
       | inl e ↦ ap (next vs) e ∙ c1.alone' ∙ sym e
       | inr ne ↦ c1.still' m h (w.joins m g h (lacks_without m n (Q 2050) ne (subst (Lacks m) rs lk)))
     ];
-    used = subst (AllByRecursion (λ y. InUse room vs (y - room))) (sym rs) (without_all (λ y. InUse room vs (y - room)) n (Q 2050) (useds_past room ws vs c1.drop' (Q 2050) w.used));
+    used = rw rs (without_all (λ y. InUse room vs (y - room)) n (Q 2050) (useds_past room ws vs c1.drop' (Q 2050) w.used));
     off = λ e. absurd (both_ways true e refl);
   }
 
@@ -159,31 +158,31 @@ module _ (room : ℕ) (ws : List ℕ) (w : Whole room true ws) (none : rg room w
   free_kin = record { long = long2; owns = r_low; past = dr }
 
   x_alone : next us (x + room) ≡ x + room
-  x_alone = let a = xs.0 in let b = xs.1 in stays (x + room) (omega arith) (omega arith) (w.joins (x + room) (omega arith) (omega arith) (subst (Lacks (x + room)) (sym none) tt))
+  x_alone = let a = xs.0 in let b = xs.1 in stays (x + room) (omega arith) (omega arith) (w.joins (x + room) (omega arith) (omega arith) (rw none tt))
 
   pub free_whole : Whole room true us
   free_whole = record {
     long = let a = w.long in let b = long2 in omega arith;
     held = moved_held 2051 (node_count room) ws w.held 2049 0 (omega arith) at0.0 2048 (omega arith) x at0.1;
     low = λ l h. elim (cases_lt l 2048) [
-      | inl lt ↦ subst (AllByRecursion (λ y. y < 2051 + room)) (sym (r_low l lt)) (w.low l h)
+      | inl lt ↦ rw (r_low l lt) (w.low l h)
       | inr ge ↦ elim (cases_eq l 2048) [
-        | inl e ↦ subst (λ (k : ℕ). AllByRecursion (λ y. y < 2051 + room) (rg room us k)) (sym e) (subst (AllByRecursion (λ y. y < 2051 + room)) (sym r_free) (All-push (λ y. y < 2051 + room) (P 2048) x (w.low 2048 (omega arith)) xs.1))
-        | inr ne ↦ let e : l ≡ 2049 = omega arith in subst (λ (k : ℕ). AllByRecursion (λ y. y < 2051 + room) (rg room us k)) (sym e) (subst (AllByRecursion (λ y. y < 2051 + room)) (sym r_gone) (drop_at_all (λ y. y < 2051 + room) 0 (P 2049) (w.low 2049 (omega arith))))
+        | inl e ↦ rw e (rw r_free (All-push (λ y. y < 2051 + room) (P 2048) x (w.low 2048 (omega arith)) xs.1))
+        | inr ne ↦ let e : l ≡ 2049 = omega arith in rw e (rw r_gone (drop_at_all (λ y. y < 2051 + room) 0 (P 2049) (w.low 2049 (omega arith))))
       ]
     ];
-    high = subst (AllByRecursion (λ y. 2051 + room ≤ y)) (sym free_none) tt;
-    sizes = λ l h. subst (AllByRecursion (Short room us)) (sym (r_low l h)) (sizes_past room ws us dr (P l) (w.sizes l h));
-    wells = λ l h. subst (AllByRecursion (Well room us)) (sym (r_low l h)) (wells_past room ws us dr (P l) (w.wells l h));
-    ends = λ l h. subst (AllByRecursion (Ends room us l)) (sym (r_low l h)) (ends_past room ws us dr l (P l) (w.ends l h));
-    spans = subst (AllByRecursion (λ y. Spanned room us (y - room))) (sym free_none) tt;
+    high = rw free_none tt;
+    sizes = λ l h. rw (r_low l h) (sizes_past room ws us dr (P l) (w.sizes l h));
+    wells = λ l h. rw (r_low l h) (wells_past room ws us dr (P l) (w.wells l h));
+    ends = λ l h. rw (r_low l h) (ends_past room ws us dr l (P l) (w.ends l h));
+    spans = rw free_none tt;
     sized = let t = total_same 2048 (λ l. length (rg room us l)) (λ l. length (P l)) (λ l h. ap length (r_low l h)) in let a = ap length r_free ∙ length_push (P 2048) x in let b = gone_length in let c = at0.0 in let z = w.sized in omega arith;
-    loose = subst (AllByRecursion (λ y. next us (y + room) ≡ y + room)) (sym r_free) (All-push (λ y. next us (y + room) ≡ y + room) (P 2048) x (All-from_get_or (λ y. next us (y + room) ≡ y + room) (P 2048) 0 (λ j k.
+    loose = rw r_free (All-push (λ y. next us (y + room) ≡ y + room) (P 2048) x (All-from_get_or (λ y. next us (y + room) ≡ y + room) (P 2048) 0 (λ j k.
         let p = (slot_at 2051 (node_count room) ws w.held 2048 j (omega arith) k).0 in
         let q = All-get_or (λ y. y < 2051 + room) (P 2048) j 0 k (w.low 2048 (omega arith)) in
         stays (get_or (P 2048) j 0 + room) (omega arith) (omega arith) (All-get_or (λ y. next ws (y + room) ≡ y + room) (P 2048) j 0 k w.loose))) x_alone);
-    joins = λ m g h lk. stays m (omega arith) h (w.joins m g h (subst (Lacks m) (sym none) tt));
-    used = subst (AllByRecursion (λ y. InUse room us (y - room))) (sym free_none) tt;
+    joins = λ m g h lk. stays m (omega arith) h (w.joins m g h (rw none tt));
+    used = rw free_none tt;
     off = λ e. absurd (both_ways true e refl);
   }
 

@@ -100,7 +100,7 @@ module _ (room : ℕ) (ix : Bool) (ws : List ℕ) (w : Whole room ix ws) (some :
       c1.rings' m (omega arith) ∙ without_lacks n (Q m) (All-weaker (λ y. y < 2051 + room) (λ y. y ≡ n → ⊥) (λ y q e. let p = xs.0 in omega arith) (Q m) (w.low m h))
 
   in1 : i < length (rg room v1 l)
-  in1 = let p = ll in subst (λ (ys : List ℕ). i < length ys) (sym (r1 l (omega arith))) xr.0
+  in1 = let p = ll in rw (r1 l (omega arith)) xr.0
 
   is1 : get_or (rg room v1 l) i 0 ≡ x
   is1 = let p = ll in ap (λ (ys : List ℕ). get_or ys i 0) (r1 l (omega arith)) ∙ xr.1
@@ -202,8 +202,8 @@ module _ (room : ℕ) (ix : Bool) (ws : List ℕ) (w : Whole room ix ws) (some :
   owned : (P : ℕ → ℕ → Type 0) → ((m : ℕ) → m < 2048 → AllByRecursion (P m) (Q m)) → (m : ℕ) → m < 2048 → AllByRecursion (P m) (rg room v3 m)
   owned P old m h =
       elim (cases_eq m l) [
-        | inl e ↦ subst (AllByRecursion (P m)) (sym (ring_own m e)) (new_all (P m) (subst (λ (k : ℕ). AllByRecursion (P m) (Q k)) e (old m h)))
-        | inr ne ↦ subst (AllByRecursion (P m)) (sym (ring_else m (omega arith) ne (λ q. omega arith))) (old m h)
+        | inl e ↦ rw (ring_own m e) (new_all (P m) (subst (λ (k : ℕ). AllByRecursion (P m) (Q k)) e (old m h)))
+        | inr ne ↦ rw (ring_else m (omega arith) ne (λ q. omega arith)) (old m h)
       ]
 
   remove_total : total 2048 (λ m. length (rg room v3 m)) + 1 ≡ total 2048 (λ m. length (Q m))
@@ -220,17 +220,17 @@ module _ (room : ℕ) (ix : Bool) (ws : List ℕ) (w : Whole room ix ws) (some :
     low = λ m h. elim (cases_lt m 2048) [
       | inl lt ↦ owned (λ _ y. y < 2051 + room) (λ m h. w.low m (omega arith)) m lt
       | inr ge ↦ elim (cases_eq m 2048) [
-        | inl e ↦ subst (λ (k : ℕ). AllByRecursion (λ y. y < 2051 + room) (rg room v3 k)) (sym e) (subst (AllByRecursion (λ y. y < 2051 + room)) (sym ring_free) (All-push (λ y. y < 2051 + room) (Q 2048) x (w.low 2048 (omega arith)) xs.1))
-        | inr ne ↦ let p = ll in subst (AllByRecursion (λ y. y < 2051 + room)) (sym (ring_else m h (λ q. omega arith) ne)) (w.low m h)
+        | inl e ↦ rw e (rw ring_free (All-push (λ y. y < 2051 + room) (Q 2048) x (w.low 2048 (omega arith)) xs.1))
+        | inr ne ↦ let p = ll in rw (ring_else m h (λ q. omega arith) ne) (w.low m h)
       ]
     ];
-    high = subst (AllByRecursion (λ y. 2051 + room ≤ y)) (sym ring_seq) (without_all (λ y. 2051 + room ≤ y) n (Q 2050) w.high);
+    high = rw ring_seq (without_all (λ y. 2051 + room ≤ y) n (Q 2050) w.high);
     sizes = owned (λ _. Short room v3) (λ m h. sizes_past room ws v3 drop3 (Q m) (w.sizes m h));
     wells = owned (λ _. Well room v3) (λ m h. wells_past room ws v3 drop3 (Q m) (w.wells m h));
     ends = owned (Ends room v3) (λ m h. ends_past room ws v3 drop3 m (Q m) (w.ends m h));
-    spans = subst (AllByRecursion (λ y. Spanned room v3 (y - room))) (sym ring_seq) (without_all (λ y. Spanned room v3 (y - room)) n (Q 2050) (spans_past room ws v3 drop3 (Q 2050) w.spans));
+    spans = rw ring_seq (without_all (λ y. Spanned room v3 (y - room)) n (Q 2050) (spans_past room ws v3 drop3 (Q 2050) w.spans));
     sized = let p = ll in let t = remove_total in let e = ap length ring_free ∙ length_push (Q 2048) x in let d = ap length (ring_else 2049 (omega arith) (λ q. omega arith) (λ q. omega arith)) in let z = w.sized in omega arith;
-    loose = subst (AllByRecursion (λ y. next v3 (y + room) ≡ y + room)) (sym ring_free) (All-push (λ y. next v3 (y + room) ≡ y + room) (Q 2048) x (All-from_get_or (λ y. next v3 (y + room) ≡ y + room) (Q 2048) 0 (λ j k.
+    loose = rw ring_free (All-push (λ y. next v3 (y + room) ≡ y + room) (Q 2048) x (All-from_get_or (λ y. next v3 (y + room) ≡ y + room) (Q 2048) 0 (λ j k.
         let p = (slot_at 2051 N ws w.held 2048 j (omega arith) k).0 in
         let q = All-get_or (λ y. y < 2051 + room) (Q 2048) j 0 k (w.low 2048 (omega arith)) in
         let x1 = xs.1 in
@@ -242,7 +242,7 @@ module _ (room : ℕ) (ix : Bool) (ws : List ℕ) (w : Whole room ix ws) (some :
           | inl e ↦ ap (next v3) e ∙ still3 n ns.0 ns.1 (λ z. omega arith) c1.alone' ∙ sym e
           | inr ne ↦ still3 m (omega arith) h (λ z. omega arith) (c1.still' m h (w.joins m g h (lacks_without m n (Q 2050) ne (subst (Lacks m) ring_seq lk))))
         ];
-    used = subst (AllByRecursion (λ y. InUse room v3 (y - room))) (sym ring_seq) (without_all (λ y. InUse room v3 (y - room)) n (Q 2050) (useds_past room ws v3 drop3 (Q 2050) w.used));
+    used = rw ring_seq (without_all (λ y. InUse room v3 (y - room)) n (Q 2050) (useds_past room ws v3 drop3 (Q 2050) w.used));
     off = λ e. let p = ll in (ring_else 2049 (omega arith) (λ q. omega arith) (λ q. omega arith) ∙ (w.off e).0, ring_seq ∙ ap (without n) (w.off e).1);
   }
 

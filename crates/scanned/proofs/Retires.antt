@@ -23,7 +23,7 @@ use Rattle.scanned.proofs.Wholes.{kept_is, own_changed, own_total}
 use Rattle.rules.specs.Store.{literals}
 use Rattle.scanned.proofs.Totals.{total_at, any_literals}
 use Rattle.scanned.proofs.Admits.{seq_is, dead_is}
-use Rattle.scanned.proofs.Joins.{Short, Well, Ends, Spanned, InUse, text_past, sizes_past, wells_past, ends_past, spans_past, useds_past, passes_past}
+use Rattle.scanned.proofs.Joins.{Short, Well, Ends, text_past, sizes_past, wells_past, ends_past, spans_past, useds_past, passes_past}
 use Rattle.scanned.proofs.Asks.{at_literal, at_ring, at_slot, at_low}
 
 lacks_has : (x : ℕ) (ys : List ℕ) → Lacks x ys → has x ys ≡ false
@@ -143,8 +143,8 @@ module _ (room : ℕ) (ix : Bool) (ws : List ℕ) (w : Whole room ix ws) (some :
     owned : (P : ℕ → ℕ → Type 0) → ((m : ℕ) → m < 2048 → AllByRecursion (P m) (Q m)) → (m : ℕ) → m < 2048 → AllByRecursion (P m) (rg room vs m)
     owned P old m k =
         elim (cases_eq m l) [
-          | inl e ↦ subst (AllByRecursion (P m)) (sym (ring_own m e)) (drop_at_all (P m) i (Q l) (subst (λ (j : ℕ). AllByRecursion (P m) (Q j)) e (old m k)))
-          | inr ne ↦ let q = hb.0 in subst (AllByRecursion (P m)) (sym (ring_else m (omega arith) ne (λ z. omega arith))) (old m k)
+          | inl e ↦ rw (ring_own m e) (drop_at_all (P m) i (Q l) (subst (λ (j : ℕ). AllByRecursion (P m) (Q j)) e (old m k)))
+          | inr ne ↦ let q = hb.0 in rw (ring_else m (omega arith) ne (λ z. omega arith)) (old m k)
         ]
 
     retire_total : total 2048 (λ m. length (rg room vs m)) + 1 ≡ total 2048 (λ m. length (Q m))
@@ -188,25 +188,25 @@ module _ (room : ℕ) (ix : Bool) (ws : List ℕ) (w : Whole room ix ws) (some :
           low = λ m k. elim (cases_lt m 2048) [
             | inl lo ↦ owned (λ _ y. y < 2051 + room) (λ m k. w.low m (omega arith)) m lo
             | inr ge ↦ elim (cases_eq m h) [
-              | inl e ↦ subst (λ (j : ℕ). AllByRecursion (λ y. y < 2051 + room) (rg room vs j)) (sym e) (subst (AllByRecursion (λ y. y < 2051 + room)) (sym ring_to) (All-push (λ y. y < 2051 + room) (Q h) x (w.low h hb.1) xs.1))
-              | inr ne ↦ subst (AllByRecursion (λ y. y < 2051 + room)) (sym (ring_else m (omega arith) (λ z. omega arith) ne)) (w.low m k)
+              | inl e ↦ rw e (rw ring_to (All-push (λ y. y < 2051 + room) (Q h) x (w.low h hb.1) xs.1))
+              | inr ne ↦ rw (ring_else m (omega arith) (λ z. omega arith) ne) (w.low m k)
             ]
           ];
-          high = subst (AllByRecursion (λ y. 2051 + room ≤ y)) (sym ring_seq) w.high;
+          high = rw ring_seq w.high;
           sizes = owned (λ _. Short room vs) (λ m k. sizes_past room ws vs dr (Q m) (w.sizes m k));
           wells = owned (λ _. Well room vs) (λ m k. wells_past room ws vs dr (Q m) (w.wells m k));
           ends = owned (Ends room vs) (λ m k. ends_past room ws vs dr m (Q m) (w.ends m k));
-          spans = subst (AllByRecursion (λ y. Spanned room vs (y - room))) (sym ring_seq) (spans_past room ws vs dr (Q 2050) w.spans);
+          spans = rw ring_seq (spans_past room ws vs dr (Q 2050) w.spans);
           sized = let t = retire_total in let b = both_sized in let z = w.sized in omega arith;
           loose = elim to [
             | inl q ↦
                 let e = q.0 in
                 let r : rg room vs 2048 ≡ Q 2048 ++ (x ∷ []) = ap (rg room vs) (sym e) ∙ ring_to ∙ ap (λ (m : ℕ). Q m ++ (x ∷ [])) e in
-                subst (AllByRecursion (λ y. next vs (y + room) ≡ y + room)) (sym r) (All-push (λ y. next vs (y + room) ≡ y + room) (Q 2048) x old_loose (stays n (let p = ns.0 in omega arith) ns.1 q.1))
-            | inr q ↦ let e = q.0 in subst (AllByRecursion (λ y. next vs (y + room) ≡ y + room)) (sym (ring_else 2048 (omega arith) (λ z. omega arith) (λ z. omega arith))) old_loose
+                rw r (All-push (λ y. next vs (y + room) ≡ y + room) (Q 2048) x old_loose (stays n (let p = ns.0 in omega arith) ns.1 q.1))
+            | inr q ↦ let e = q.0 in rw (ring_else 2048 (omega arith) (λ z. omega arith) (λ z. omega arith)) old_loose
           ];
           joins = λ m g k lk. stays m (omega arith) k (w.joins m g k (subst (Lacks m) ring_seq lk));
-          used = subst (AllByRecursion (λ y. InUse room vs (y - room))) (sym ring_seq) (useds_past room ws vs dr (Q 2050) w.used);
+          used = rw ring_seq (useds_past room ws vs dr (Q 2050) w.used);
           off = λ e. elim to [
             | inl q ↦ let z = q.0 in (ring_else 2049 (omega arith) (λ y. omega arith) (λ y. omega arith) ∙ (w.off e).0, ring_seq ∙ (w.off e).1)
             | inr q ↦ absurd (q.1 (w.joins n ns.0 ns.1 (subst (Lacks n) (sym (w.off e).1) tt)))
@@ -251,7 +251,7 @@ module _ (room : ℕ) (ix : Bool) (ws : List ℕ) (w : Whole room ix ws) (some :
     not_used : next ws n ≡ n → any_to 2048 (λ k. has x (used_of room ws k)) ≡ false
     unfolding used_of
     not_used al =
-        let lk : Lacks x (seq_of room ws) = subst (Lacks x) (sym (seq_is room ws some)) (un_map (Q 2050) (alone_lacks 2051 N ws w.held n 2050 (omega arith) ns.1 al) w.high) in
+        let lk : Lacks x (seq_of room ws) = rw (seq_is room ws some) (un_map (Q 2050) (alone_lacks 2051 N ws w.held n 2050 (omega arith) ns.1 al) w.high) in
         any_none 2048 (λ k. has x (filter (passes room ws k) (seq_of room ws))) (λ k. lacks_has x (filter (passes room ws k) (seq_of room ws)) (all_kept_by (passes room ws k) (λ y. y ≡ x → ⊥) (seq_of room ws) lk))
       where
         un_map : (ys : List ℕ) → Lacks n ys → AllByRecursion (λ y. 2051 + room ≤ y) ys → Lacks x (map (λ y. y - room) ys)

@@ -1,5 +1,5 @@
 -- What the words of a scanned store say. Assumes nothing.
-use Rattle.std.proofs.Common.{◌≡◌, ℕ, ◌+◌, ◌-◌, ◌<◌, ◌≤◌, Bool, true, ◌&&◌, ltb, List, [], ◌∷◌, length, get_or, sym, refl, ap, ◌∙◌, subst, inl, inr, arith}
+use Rattle.std.proofs.Common.{◌≡◌, ℕ, ◌+◌, ◌-◌, ◌<◌, ◌≤◌, Bool, true, ◌&&◌, ltb, List, [], ◌∷◌, length, get_or, sym, refl, ap, ◌∙◌, inl, inr, arith}
 use mathlib.Core.Logic.{∥∥₁_elim}
 use native.Mathlib.Bridge.{le_prop}
 use mathlib.Core.HLevel.{Π_prop, ×_prop}
@@ -74,8 +74,8 @@ own_bare room ws l h = cond-false (ltb l 2048 && ltb 0 room) (rg room ws l) [] (
 pub own_by : (P : ℕ → List ℕ → Type 0) (room : ℕ) (ws : List ℕ) → ((l : ℕ) → P l []) → (0 < room → (l : ℕ) → l < 2048 → P l (rg room ws l)) → (l : ℕ) → P l (own_of room ws l)
 own_by P room ws n s l =
     elim (cases_lt 0 room) [
-      | inr z ↦ subst (P l) (sym (own_bare room ws l z)) (n l)
-      | inl r ↦ elim (cases_lt l 2048) [ inl h ↦ subst (P l) (sym (own_is room ws l r h)) (s r l h) | inr h ↦ subst (P l) (sym (own_none room ws l h)) (n l) ]
+      | inr z ↦ rw (own_bare room ws l z) (n l)
+      | inl r ↦ elim (cases_lt l 2048) [ inl h ↦ rw (own_is room ws l r h) (s r l h) | inr h ↦ rw (own_none room ws l h) (n l) ]
     ]
 
 -- what the rings of own lists say of them

@@ -1,11 +1,11 @@
-use Rattle.std.proofs.Common.{ℕ, ◌<◌, true, List, length, sym, ◌∙◌, subst, arith}
-use Rattle.scanned.specs.Layout.{Whole, Kin, rg}
+use Rattle.std.proofs.Common.{true, sym, ◌∙◌, subst, arith}
+use Rattle.scanned.specs.Layout.{Whole, Kin}
 use Rattle.scanned.proofs.Asks.{reads_some, reads_none}
 use Rattle.scanned.proofs.Offs.{kin_then, cut_words, cut_shorter, cut_kin, cut_whole}
 use Rattle.scanned.proofs.words.cut_sequence.Goals as goal
 
 pub loop-n-smaller : goal.loop-n-smaller
-loop-n-smaller c = subst (λ (v : List ℕ). length (rg c.args.room v 2050) < length (rg c.args.room c.loop-n.ws 2050)) (sym (c.unlink.ensures ∙ cut_words c.args.room c.loop-n.ws c.loop-n.invariant.0 c.in-Some.n (reads_some c.args.room c.loop-n.ws c.loop-n.invariant.0 2050 (omega arith) c.in-Some.n c.in-Some.ensures))) (cut_shorter c.args.room c.loop-n.ws c.loop-n.invariant.0 c.in-Some.n (reads_some c.args.room c.loop-n.ws c.loop-n.invariant.0 2050 (omega arith) c.in-Some.n c.in-Some.ensures))
+loop-n-smaller c = rw (c.unlink.ensures ∙ cut_words c.args.room c.loop-n.ws c.loop-n.invariant.0 c.in-Some.n (reads_some c.args.room c.loop-n.ws c.loop-n.invariant.0 2050 (omega arith) c.in-Some.n c.in-Some.ensures)) (cut_shorter c.args.room c.loop-n.ws c.loop-n.invariant.0 c.in-Some.n (reads_some c.args.room c.loop-n.ws c.loop-n.invariant.0 2050 (omega arith) c.in-Some.n c.in-Some.ensures))
 
 pub loop-n-preserved : goal.loop-n-preserved
 loop-n-preserved c =

@@ -1,11 +1,11 @@
-use Rattle.std.proofs.Common.{ℕ, ◌<◌, true, List, length, sym, ap, ◌∙◌, subst, arith}
+use Rattle.std.proofs.Common.{ℕ, true, List, sym, ap, ◌∙◌, subst, arith}
 use Rattle.scanned.specs.Layout.{Whole, Kin, rg}
 use Rattle.scanned.proofs.Asks.{reads_some, reads_none}
 use Rattle.scanned.proofs.Offs.{kin_then, free_words, free_shorter, free_kin, free_whole, free_none}
 use Rattle.scanned.proofs.words.free_retired.Goals as goal
 
 pub loop-x-smaller : goal.loop-x-smaller
-loop-x-smaller c = subst (λ (v : List ℕ). length (rg c.args.room v 2049) < length (rg c.args.room c.loop-x.ws 2049)) (sym (c.shift.ensures ∙ free_words c.args.room c.loop-x.ws c.loop-x.invariant.0 c.loop-x.invariant.2 c.in-Some.x (reads_some c.args.room c.loop-x.ws c.loop-x.invariant.0 2049 (omega arith) c.in-Some.x c.in-Some.ensures))) (free_shorter c.args.room c.loop-x.ws c.loop-x.invariant.0 c.loop-x.invariant.2 c.in-Some.x (reads_some c.args.room c.loop-x.ws c.loop-x.invariant.0 2049 (omega arith) c.in-Some.x c.in-Some.ensures))
+loop-x-smaller c = rw (c.shift.ensures ∙ free_words c.args.room c.loop-x.ws c.loop-x.invariant.0 c.loop-x.invariant.2 c.in-Some.x (reads_some c.args.room c.loop-x.ws c.loop-x.invariant.0 2049 (omega arith) c.in-Some.x c.in-Some.ensures)) (free_shorter c.args.room c.loop-x.ws c.loop-x.invariant.0 c.loop-x.invariant.2 c.in-Some.x (reads_some c.args.room c.loop-x.ws c.loop-x.invariant.0 2049 (omega arith) c.in-Some.x c.in-Some.ensures))
 
 pub loop-x-preserved : goal.loop-x-preserved
 loop-x-preserved c =
