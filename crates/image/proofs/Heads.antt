@@ -1,9 +1,8 @@
 -- The head of an image. Assumes nothing.
-use Rattle.std.proofs.Common.{◌≡◌, ℕ, zero, suc, ◌+◌, ◌-◌, ◌<◌, ◌≤◌, min, Bool, true, false, cond, ◌&&◌, eqb, ltb, leb, List, [], length, get_or, drop, slice_range, MatchBool, MatchOption, Option, unwrap_or, ◌⊎◌, Ok, Some, None, Err, sym, refl, ap, ◌∙◌, ⊎_elim, add-one, arith, length-drop}
-use Rattle.std.proofs.lemmas.List.{get_or_past, get_or-take, get_or-drop, length-take, nil_from_length, take_all}
-use Rattle.std.proofs.lemmas.Bool.{cases_lt, false_from_ne_true, cond_both, lt-ltb, le-ltb, and_parts, and_from, cases_eq, leb-true, eqb-true, le-leb, eq-eqb, cond-true, cond-false}
+use Rattle.std.proofs.Common.{◌≡◌, ℕ, zero, suc, ◌+◌, ◌-◌, ◌<◌, ◌≤◌, Bool, true, false, cond, ◌&&◌, eqb, leb, List, [], length, get_or, drop, slice_range, MatchBool, Ok, Some, Err, sym, refl, ap, ◌∙◌, ⊎_elim, add-one, arith, length-drop}
+use Rattle.std.proofs.lemmas.List.{get_or-take, get_or-drop, length-take}
+use Rattle.std.proofs.lemmas.Bool.{false_from_ne_true, lt-ltb, le-ltb, and_parts, and_from, cases_eq, leb-true, eqb-true, le-leb, eq-eqb, cond-true, cond-false}
 use Rattle.std.proofs.lemmas.List.Sorted.{non_decreasing_from_is_sorted}
-use Rattle.std.specs.Borrow.{Bor}
 use Rattle.std.specs.List.{IsAllAdjacentAnswer}
 use Rattle.std.specs.List.Sorted.{IsNonDecreasing}
 use Rattle.std.specs.Ordering.{is_some_and, is_le, nat_cmp}
@@ -110,57 +109,11 @@ run_within ws k h l =
     climbs_down ws zero (suc k) c h = absurd (omega arith)
     climbs_down ws (suc m) k c h = ⊎_elim (λ (e : k ≡ suc m). ap (climbs ws) e ∙ c) (λ (n : k ≡ suc m → ⊥). climbs_down ws m k (and_parts _ _ (sym (climbs_more ws m) ∙ c)).1 (omega arith)) (cases_eq k (suc m))
 
--- the offset at which the run of node k + 1 begins
-start_is : (ws : List ℕ) (k : ℕ) → get_or ws (suc k + 1) 0 ≡ offset ws k
-start_is ws k = let e : suc k + 1 ≡ k + 2 = omega arith in ap (λ (i : ℕ). get_or ws i 0) e
-
 -- a node's run, by its offsets
 pub run_is : (ws : List ℕ) (k : ℕ) → k < top ws → run ws (suc k) ≡ between (offset ws k) (offset ws (suc k)) ws
 run_is ws k l = cond-true _ _ _ (lt-ltb k (top ws) l)
 
--- no words for node 0 and past the highest node, and none where an offset is missing or the offsets fall
-pub run_zero : (ws : List ℕ) (n : ℕ) → n ≡ 0 → run ws n ≡ []
-run_zero ws n e = ap (run ws) e
-
+-- no words past the highest node
 pub run_past : (ws : List ℕ) (n : ℕ) → top ws < n → run ws n ≡ []
 run_past ws zero l = refl
 run_past ws (suc k) l = cond-false _ _ _ (le-ltb k (top ws) (omega arith))
-
-run_falls : (ws : List ℕ) (n e : ℕ) → e ≡ min (get_or ws (n + 2) 0) (length ws) → e ≤ get_or ws (n + 1) 0 → run ws n ≡ []
-run_falls ws zero e m h = refl
-run_falls ws (suc k) e m h =
-    cond_both (ltb k (top ws)) (between (offset ws k) (offset ws (suc k)) ws) [] (λ (z : List ℕ). z ≡ []) (λ _. none (offset ws k) (offset ws (suc k)) m (omega (arith, h, start_is ws k))) (λ _. refl)
-  where
-    none : (a b : ℕ) → e ≡ min b (length ws) → e ≤ a → between a b ws ≡ []
-    none a b m h = nil_from_length (between a b ws) (omega (arith, length-take (b - a) (drop a ws), length-drop a ws))
-
-pub run_short : (ws : List ℕ) (n : ℕ) → length ws ≤ n + 2 → run ws n ≡ []
-run_short ws n l =
-    let z : get_or ws (n + 2) 0 ≡ 0 = get_or_past ws (n + 2) 0 l in
-    run_falls ws n 0 (least z) (omega arith)
-  where
-    least : get_or ws (n + 2) 0 ≡ 0 → 0 ≡ min (get_or ws (n + 2) 0) (length ws)
-    least z = sym (ap (λ (x : ℕ). min x (length ws)) z ∙ zero_min (length ws))
-      where
-        zero_min : (b : ℕ) → min 0 b ≡ 0
-        zero_min b = omega arith
-
--- what is cut out where the end is brought within the words
-run_cut : (ws : List ℕ) (n e : ℕ) → (n ≡ 0 → ⊥) → n ≤ top ws → e ≡ min (get_or ws (n + 2) 0) (length ws) → get_or ws (n + 1) 0 ≤ e → between (get_or ws (n + 1) 0) e ws ≡ run ws n
-run_cut ws zero e z l m h = absurd (z refl)
-run_cut ws (suc k) e z l m h =
-    ap (λ (a : ℕ). between a e ws) (start_is ws k) ∙ clamped (offset ws k) (offset ws (suc k)) m (omega (arith, h, start_is ws k)) ∙ sym (run_is ws k (omega arith))
-  where
-    clamped : (a b : ℕ) → e ≡ min b (length ws) → a ≤ e → between a e ws ≡ between a b ws
-    clamped a b m h =
-        ⊎_elim
-        (λ (g : length ws < b). let d = length-drop a ws in take_all (e - a) (drop a ws) (omega arith) ∙ sym (take_all (b - a) (drop a ws) (omega arith)))
-        (λ (g : b ≤ length ws). let q : e ≡ b = omega arith in ap (λ (x : ℕ). between a x ws) q)
-        (cases_lt (length ws) b)
-
--- what `get` finds between those ends, or no words
-pub run_got : (ws : List ℕ) (n e : ℕ) (o : Option (Bor (List ℕ))) (d r : Bor (List ℕ)) → (n ≡ 0 → ⊥) → n ≤ top ws → e ≡ min (get_or ws (n + 2) 0) (length ws)
-    → MatchOption o ((e < get_or ws (n + 1) 0) ⊎ (length ws < e)) (λ x. (get_or ws (n + 1) 0 ≤ e) × (e ≤ length ws) × (x.now ≡ between (get_or ws (n + 1) 0) e ws) × (length x.now + get_or ws (n + 1) 0 ≡ e))
-    → r ≡ unwrap_or o d → d.now ≡ [] → r.now ≡ run ws n
-run_got ws n e None d r z l m h u i = ap (λ (x : Bor (List ℕ)). x.now) u ∙ i ∙ sym (run_falls ws n e m (⊎_elim (λ f. omega arith) (λ f. omega arith) h))
-run_got ws n e (Some x) d r z l m (b, _, x-is, _) u i = ap (λ (x : Bor (List ℕ)). x.now) u ∙ x-is ∙ run_cut ws n e z l m b

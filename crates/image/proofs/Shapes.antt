@@ -92,7 +92,3 @@ owner_at (x ∷ []) zero e = refl
 owner_at (x ∷ []) (suc k) e = absurd (omega arith)
 owner_at (x ∷ y ∷ C) zero e = absurd (omega arith)
 owner_at (x ∷ y ∷ C) (suc k) e = owner_at (y ∷ C) k (omega arith)
-
-pub owner_none : (C : List ℕ) → length C < 1 → 0 ≡ owner C
-owner_none [] h = refl
-owner_none (x ∷ C) h = absurd (omega arith)

@@ -1,14 +1,13 @@
 -- The steps of reading an input. Assumes nothing.
-use Rattle.std.proofs.Common.{◌≡◌, ℕ, zero, suc, ◌+◌, ◌-◌, ◌*◌, ◌/◌, ◌%◌, ◌<◌, ◌≤◌, Bool, true, List, [], ◌∷◌, ◌++◌, length, get_or, map, take, drop, set, Ok, Err, Result, sym, refl, ap, ◌∙◌, subst, drop_of_length-le, arith}
-use Rattle.std.proofs.lemmas.List.{take_rest, append-nil, at_drop_more, at_drop_all}
+use Rattle.std.proofs.Common.{◌≡◌, ℕ, zero, suc, ◌+◌, ◌*◌, ◌/◌, ◌%◌, ◌<◌, ◌≤◌, Bool, List, [], ◌∷◌, ◌++◌, length, get_or, map, take, drop, Ok, Err, Result, sym, refl, ap, ◌∙◌, subst, drop_of_length-le, arith}
+use Rattle.std.proofs.lemmas.List.{append-nil}
 use Rattle.std.proofs.lemmas.Bool.{and_from, eq-eqb, le-leb, cond-true}
 use Rattle.std.specs.Int.{w32, from_le_bytes}
 use Rattle.std.specs.Simd.{first_chunks}
-use Rattle.image.specs.Faults.{◌then◌}
-use Rattle.intake.specs.Answers.{take_in_answer, froze_answer}
+use Rattle.intake.specs.Answers.{take_in_answer}
 use Rattle.intake.proofs.Steps.{then_at, then_stop}
 use Rattle.image.specs.declared.fault.Fault.{Fault}
-use Rattle.input.specs.Inputs.{word, words_of, input_words, parts, freeze_answer, with_frozen, open_answer, Opened, OpenedBytes}
+use Rattle.input.specs.Inputs.{word, words_of, input_words, parts, freeze_answer, open_answer, Opened, OpenedBytes}
 
 words_step : (xs : List ℕ) → 4 ≤ length xs → words_of xs ≡ word (get_or xs 0 0) (get_or xs 1 0) (get_or xs 2 0) (get_or xs 3 0) ∷ words_of (drop 4 xs)
 unfolding words_of
@@ -47,39 +46,6 @@ decoding_end bytes old out words k n c i l q few m (a, d) =
     let e : take n out ≡ words_of bytes =
     ap (λ (j : ℕ). take j out) (sym i) ∙ sym (append-nil (take k out)) ∙ ap (λ (z : List (List ℕ)). take k out ++ map f z) (sym (drop_of_length-le words (omega arith))) ∙ a ∙ ap (map f) c ∙ sym (words_are (length bytes / 4) bytes (omega arith) (omega arith)) in
     (few, cond-true _ _ _ (and_from _ _ (le-leb (length bytes) 65536 (omega arith)) (eq-eqb _ _ m)) ∙ ap Ok (sym e), ap (λ (j : ℕ). drop j out) (sym i) ∙ d ∙ ap (λ (j : ℕ). drop j old) i)
-
--- the parts of an input
-abbrev rest_of : List ℕ → List ℕ
-rest_of ws = take (length ws - 1) (drop 1 ws)
-
-pub split_is : (ws f b : List ℕ) → 1 ≤ length ws → get_or ws 0 0 ≤ length (rest_of ws) → f ≡ take (get_or ws 0 0) (rest_of ws) → b ≡ drop (get_or ws 0 0) (rest_of ws) → parts ws ≡ Ok (f, b)
-split_is [] f b h le e1 e2 = absurd (omega arith)
-split_is (n ∷ ws) f b h le e1 e2 =
-    let r : rest_of (n ∷ ws) ≡ ws = take_rest (n ∷ ws) 1 in
-    let l : n ≤ length ws = omega (arith, le, ap length r) in
-    let f1 : f ≡ take n ws = e1 ∙ ap (λ (z : List ℕ). take n z) r in
-    let b1 : b ≡ drop n ws = e2 ∙ ap (λ (z : List ℕ). drop n z) r in
-    cond-true _ _ _ (le-leb n (length ws) l) ∙ ap (λ (z : List ℕ). Ok (z, drop n ws)) (sym f1) ∙ ap (λ (z : List ℕ). Ok (f, z)) (sym b1)
-
--- freezing
-module _ (ws ns : List ℕ) (i : ℕ) (h : i < length ns) (inv : freeze_answer ws (drop i ns) ≡ freeze_answer ws ns) where
-  step : freeze_answer ws (drop i ns) ≡ (froze_answer ws (get_or ns i 0) then (λ _. freeze_answer ws (drop (i + 1) ns)))
-  step = at_drop_more (freeze_answer ws) ns i 0 h
-
-  pub freeze_on : (u : Unit {0}) → Ok u ≡ froze_answer ws (get_or ns i 0) → freeze_answer ws (drop (i + 1) ns) ≡ freeze_answer ws ns
-  freeze_on u e = sym (step ∙ then_at (froze_answer ws (get_or ns i 0)) _ u (sym e)) ∙ inv
-
-  pub freeze_stop : (f : Fault) → Err f ≡ froze_answer ws (get_or ns i 0) → Err f ≡ freeze_answer ws ns
-  freeze_stop f e = sym (step ∙ then_stop (froze_answer ws (get_or ns i 0)) _ f (sym e)) ∙ inv
-
-pub freeze_end : (ws ns : List ℕ) (i : ℕ) → length ns ≤ i → freeze_answer ws (drop i ns) ≡ freeze_answer ws ns → Ok tt ≡ freeze_answer ws ns
-freeze_end ws ns i h inv = sym (at_drop_all (freeze_answer ws) ns i h) ∙ inv
-
-pub freezes_on : (fs gs all : List Bool) (ns : List ℕ) (i : ℕ) → i < length ns → gs ≡ set fs (get_or ns i 0) true → with_frozen fs (drop i ns) ≡ all → with_frozen gs (drop (i + 1) ns) ≡ all
-freezes_on fs gs all ns i h e inv = ap (λ (z : List Bool). with_frozen z (drop (i + 1) ns)) e ∙ sym (at_drop_more (with_frozen fs) ns i 0 h) ∙ inv
-
-pub freezes_end : (fs all : List Bool) (ns : List ℕ) (i : ℕ) → length ns ≤ i → with_frozen fs (drop i ns) ≡ all → fs ≡ all
-freezes_end fs all ns i h inv = sym (at_drop_all (with_frozen fs) ns i h) ∙ inv
 
 -- the whole input
 pub input_split : (ws : List ℕ) (f : Fault) → parts ws ≡ Err f → Err f ≡ open_answer ws

@@ -1,7 +1,6 @@
 -- The search through the rows. Assumes nothing.
-use Rattle.std.proofs.Common.{◌≡◌, ℕ, zero, suc, ◌+◌, ◌*◌, ◌/◌, ◌%◌, ◌^◌, ◌<◌, ◌≤◌, Bool, true, false, not, ◌&&◌, ◌||◌, eqb, List, [], ◌∷◌, length, get_or, drop, Ok, Err, sym, refl, ap, ◌∙◌, arith}
-use Rattle.std.proofs.lemmas.List.{at_drop_more, at_drop_all}
-use Rattle.std.proofs.lemmas.Bool.{cond-true, cond-false, eq-eqb, ne_eqb}
+use Rattle.std.proofs.Common.{◌≡◌, ℕ, zero, suc, ◌+◌, ◌*◌, ◌%◌, ◌^◌, ◌<◌, ◌≤◌, Bool, true, false, not, ◌&&◌, ◌||◌, List, [], ◌∷◌, length, Ok, Err, sym, refl, ap, ◌∙◌, arith}
+use Rattle.std.proofs.lemmas.Bool.{cond-true, cond-false}
 use Rattle.network.specs.Assignments.{Assignment, put, holds, sat}
 use Rattle.image.specs.Runs.{Front, clauses}
 use Rattle.image.specs.Faults.{fault}
@@ -81,14 +80,3 @@ unfolding searched
 searched_done xs n run r loose e (a, b) =
     let x : some_row (no_value xs n (clauses run)) (2 ^ length xs) ≡ false = ap (some_row (no_value xs n (clauses run))) (sym e) ∙ a in
     ap Ok (b ∙ ap (some_row (two_values xs n (clauses run))) e) ∙ sym (cond-false _ _ _ x)
-
--- the digits of a row
-module _ (xs : List ℕ) (r q k i : ℕ) (inv : row (drop i xs) r k ≡ row xs q k) where
-  pub row_on : i < length xs → (k ≡ get_or xs i 0 → ⊥) → row (drop (i + 1) xs) (r / 2) k ≡ row xs q k
-  row_on h n = sym (at_drop_more (λ (l : List ℕ). row l r k) xs i 0 h ∙ cond-false _ _ _ (ne_eqb _ _ n)) ∙ inv
-
-  pub row_here : i < length xs → k ≡ get_or xs i 0 → eqb (r % 2) 1 ≡ row xs q k
-  row_here h e = sym (at_drop_more (λ (l : List ℕ). row l r k) xs i 0 h ∙ cond-true _ _ _ (eq-eqb _ _ e)) ∙ inv
-
-  pub row_end : length xs ≤ i → false ≡ row xs q k
-  row_end h = sym (at_drop_all (λ (l : List ℕ). row l r k) xs i h) ∙ inv

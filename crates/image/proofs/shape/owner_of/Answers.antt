@@ -1,9 +1,6 @@
 use Rattle.std.proofs.Common.{rules}
-use Rattle.image.proofs.Shapes.{owner_at, owner_none}
+use Rattle.image.proofs.Shapes.{owner_at}
 use Rattle.image.proofs.shape.owner_of.Goals as goal
-
-pub returns-in-empty : goal.returns-in-empty
-returns-in-empty c = owner_none c.args.clause.now (search rules)
 
 pub returns-in-len1-up : goal.returns-in-len1-up
 returns-in-len1-up c = owner_at c.args.clause.now _ (search rules)

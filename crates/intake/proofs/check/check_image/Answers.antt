@@ -13,9 +13,6 @@ use Rattle.intake.proofs.check.check_image.Goals as goal
 answered : (ws : List ℕ) (r : Result (Unit {0}) Fault) → r ≡ take_in_answer ws → record { answer : r ≡ take_in_answer ws; means : Answers ws r; only : (s : Result (Unit {0}) Fault) → Answers ws s → r ≡ s }
 answered ws r e = record { answer = e; means = subst (Answers ws) (sym e) (answer_means ws); only = λ s a. e ∙ (exactly ws s).1 a }
 
-pub check_nodes-requires : goal.check_nodes-requires
-check_nodes-requires c = let p = head_came c.args.words.now _ c.in_ok-top.ensures in record { head = p.0; all = p.1 }
-
 pub returns-in_err-top : goal.returns-in_err-top
 returns-in_err-top c =
     let p = err_from_is_err_and c.from_residual.result c.from_residual.ensures.1 in

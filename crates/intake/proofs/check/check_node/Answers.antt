@@ -1,6 +1,6 @@
 use Rattle.std.proofs.Common.{◌≡◌, ℕ, List, Err, ap, ◌∙◌}
 use Rattle.std.proofs.lemmas.Result.{err_from_is_err_and}
-use Rattle.intake.proofs.Steps.{whole_from, node_cut, node_order, node_owner, node_rows, node_right}
+use Rattle.intake.proofs.Steps.{node_cut, node_order, node_owner, node_rows, node_right}
 use Rattle.network.specs.Clauses.{in_order, owned}
 use Rattle.image.specs.Faults.{fault}
 use Rattle.image.specs.Runs.{clauses_pass}
@@ -33,9 +33,6 @@ pub returns-in_err-check_rows : goal.returns-in_err-check_rows
 returns-in_err-check_rows c =
     let p = err_from_is_err_and c.from_residual-in_err-check_rows.result c.from_residual-in_err-check_rows.ensures.1 in
     p.1 ∙ ap Err p.2 ∙ node_rows c.args.run.node c.args.run.words.now _ c.in_ok-count.ensures _ _ _ (c.in_ok-check_clauses.ensures ∙ ordered c.args.run.node c.args.run.words.now _ c.at.ensures) (c.in_ok-check_clauses-2.ensures ∙ placed c.args.run.node c.args.run.words.now _ c.at-2.ensures) c.in_err-check_rows.ensures
-
-pub invariant_of-check_rows : goal.invariant_of-check_rows
-invariant_of-check_rows c = record { whole = whole_from c.args.run.node c.args.run.words.now _ c.in_ok-count.ensures }
 
 pub returns : goal.returns
 returns c = node_right c.args.run.node c.args.run.words.now _ c.in_ok-count.ensures _ _ _ (c.in_ok-check_clauses.ensures ∙ ordered c.args.run.node c.args.run.words.now _ c.at.ensures) (c.in_ok-check_clauses-2.ensures ∙ placed c.args.run.node c.args.run.words.now _ c.at-2.ensures) c.in_ok-check_rows.ensures

@@ -29,11 +29,6 @@ returns-in_err-count c =
     let p = err_from_is_err_and c.from_residual.result c.from_residual.ensures.1 in
     rw (p.1, p.2) (counting_stop c.args.words.now k _ c.args.top _ (omega arith) i (c.in_err-count.ensures ∙ node_here c.args.words.now _ c.loop-node.node _ k c.run_of.ensures.words c.run_of.ensures.node e))
 
-pub returns : goal.returns
-returns c =
-    let (k, e, m, i) = c.loop-node.invariant in
-    let j : k ≡ c.args.top = omega arith in sym i.0 ∙ ap (nodes_answer c.args.words.now) j
-
 pub returns-in_ok-count : goal.returns-in_ok-count
 returns-in_ok-count c =
     let (k, e, m, i) = c.loop-node.invariant in
