@@ -1,32 +1,14 @@
-ghost use Rattle.std.specs.Prelude.{◌/◌, ◌%◌, ◌∷◌, if◌then◌else◌, Some, decimal, nat_eq};
-
+use clause::Lit;
 use image::reader::Run;
 use intake::state::Intake;
 use std::alloc::AllocError;
-use std::{fmt, io};
-
-// A literal as text: the node where it is true, and the node behind `!` where it is false.
-#[derive(Clone, Copy)]
-struct Literal(u32);
-
-impl fmt::Display for Literal {
-    ghost output = { λ l. Some (if nat_eq (l.0 % 2) 0 then decimal (l.0 / 2) else 33 ∷ decimal (l.0 / 2)) };
-
-    fn fmt<W: fmt::Write>(&self, f: &mut fmt::Formatter<W>) -> fmt::Result {
-        let node = self.0 / 2;
-        if self.0 % 2 == 0 {
-            write!(f, "{node}")
-        } else {
-            write!(f, "!{node}")
-        }
-    }
-}
+use std::io;
 
 // Prints a clause, as `(!1 | 2)`.
 fn print_clause(rt: &HostRuntime, clause: &[u32]) -> io::Result<()> {
     let mut before = "(";
     for l in clause {
-        let literal = Literal(*l);
+        let literal = Lit::from(*l);
         print!(rt; "{before}{literal}")?;
         before = " | ";
     }
