@@ -22,7 +22,7 @@ fn inside(ws: &[u32], n: u32) -> bool
     2 * (n as usize) + 1 < ws.len()
 }
 
-// Whether node n and the nodes beside it are there.
+// Whether node n and the nodes beside it are there. A writer asks before its first write, so it makes all its writes or none.
 fn knotted_in(ws: &[u32], n: u32) -> bool
     ensures { result ≡ knotted ws.now n }
 {
