@@ -1,5 +1,5 @@
 -- The steps of reading an input. Assumes nothing.
-use Rattle.std.proofs.Common.{◌≡◌, ℕ, zero, suc, ◌+◌, ◌*◌, ◌/◌, ◌%◌, ◌<◌, ◌≤◌, Bool, List, [], ◌∷◌, ◌++◌, length, get_or, map, take, drop, Ok, Err, Result, sym, refl, ap, ◌∙◌, subst, drop_of_length-le, arith}
+use Rattle.std.proofs.Common.{◌≡◌, ℕ, zero, suc, ◌+◌, ◌*◌, ◌/◌, ◌%◌, ◌<◌, ◌≤◌, List, [], ◌∷◌, ◌++◌, length, get_or, map, take, drop, Ok, Err, Result, sym, refl, ap, ◌∙◌, drop_of_length-le, arith}
 use Rattle.std.proofs.lemmas.List.{append-nil}
 use Rattle.std.proofs.lemmas.Bool.{and_from, eq-eqb, le-leb, cond-true}
 use Rattle.std.specs.Int.{w32, from_le_bytes}
@@ -7,7 +7,7 @@ use Rattle.std.specs.Simd.{first_chunks}
 use Rattle.intake.specs.Answers.{take_in_answer}
 use Rattle.intake.proofs.Steps.{then_at, then_stop}
 use Rattle.image.specs.declared.fault.Fault.{Fault}
-use Rattle.input.specs.Inputs.{word, words_of, input_words, parts, freeze_answer, open_answer, Opened, OpenedBytes}
+use Rattle.input.specs.Inputs.{word, words_of, input_words, parts, freeze_answer, open_answer}
 
 words_step : (xs : List ℕ) → 4 ≤ length xs → words_of xs ≡ word (get_or xs 0 0) (get_or xs 1 0) (get_or xs 2 0) (get_or xs 3 0) ∷ words_of (drop 4 xs)
 unfolding words_of
@@ -60,7 +60,3 @@ module _ (ws a b : List ℕ) (e : parts ws ≡ Ok (a, b)) where
   pub input_all : (u : Unit {0}) (c : List ℕ) (r : Result (Unit {0}) Fault) → Ok u ≡ take_in_answer b → c ≡ b → r ≡ freeze_answer c a → r ≡ open_answer ws
   unfolding open_answer
   input_all u c r i q h = h ∙ ap (λ (z : List ℕ). freeze_answer z a) q ∙ sym (then_at (parts ws) _ (a, b) e ∙ then_at (take_in_answer b) _ u (sym i))
-
--- the words that were written are those that were opened
-pub opened_words : (bytes out image : List ℕ) (n k : ℕ) (fs : List Bool) → k ≡ n → input_words bytes ≡ Ok (take n out) → Opened (take k out) image fs → OpenedBytes bytes image fs
-opened_words bytes out image n k fs e d o = (take n out, d, subst (λ (i : ℕ). Opened (take i out) image fs) e o)

@@ -1,7 +1,7 @@
 -- Each answer of take-in on its ground, and on no other. Assumes nothing.
-use Rattle.std.proofs.Common.{◌≡◌, ℕ, suc, ◌-◌, ◌^◌, ◌<◌, ◌≤◌, Bool, true, false, cond, eqb, leb, List, length, Ok, Err, Result, sym, refl, ap, ◌∙◌, subst, inl, inr, ⊎_elim, arith}
+use Rattle.std.proofs.Common.{◌≡◌, ℕ, suc, ◌-◌, ◌^◌, ◌<◌, ◌≤◌, true, cond, eqb, leb, List, length, Ok, Err, Result, sym, refl, ap, ◌∙◌, subst, inl, inr, ⊎_elim, arith}
+use Rattle.std.proofs.lemmas.Bool.{cond-true, cond-false, false_from_ne_true, true_from_ne_false, ne_eqb, le-leb, cases_lt, both_ways}
 use Rattle.std.specs.List.{list_all}
-use Rattle.std.proofs.lemmas.Bool.{cond-true, cond-false, ne_eqb, le-leb, cases_lt, both_ways}
 use Rattle.image.specs.Faults.{fault, ◌then◌, tested}
 use Rattle.image.specs.Runs.{whole, clauses}
 use Rattle.network.specs.Clauses.{in_order, owned}
@@ -15,18 +15,10 @@ use Rattle.intake.proofs.Steps.{then_at, then_stop, rows_wide, nodes_stop, nodes
 use Rattle.intake.proofs.Meanings.{uncut_from, uncut_back, sorted_from, sorted_back, owned_from, owned_back, NodesAnswers, nodes_means, header_from, header_back, formed_not, answer_means, accepted_iff}
 use Rattle.image.specs.declared.fault.Fault.{Fault}
 
-not_so : (b : Bool) → (b ≡ true → ⊥) → b ≡ false
-not_so true n = absurd (n refl)
-not_so false n = refl
-
-so : (b : Bool) → (b ≡ false → ⊥) → b ≡ true
-so true n = refl
-so false n = absurd (n refl)
-
 rows_clash : (n : ℕ) (xs : List ℕ) → Narrow n (clauses xs) → Clash n (clauses xs) → rows_answer n xs ≡ Err (fault 6 n)
 unfolding rows_answer
 rows_clash n xs a (σ, z, h) =
-    let t : some_row (no_value (lower n (clauses xs)) n (clauses xs)) (2 ^ length (lower n (clauses xs))) ≡ true = so _ (λ f. let (b, v) = valued_from n (clauses xs) f σ z in both_ways _ (h b) v) in
+    let t : some_row (no_value (lower n (clauses xs)) n (clauses xs)) (2 ^ length (lower n (clauses xs))) ≡ true = true_from_ne_false _ (λ f. let (b, v) = valued_from n (clauses xs) f σ z in both_ways _ (h b) v) in
     then_at (tested (leb (length (lower n (clauses xs))) 8) (fault 5 n)) _ tt (cond-true _ _ _ (le-leb _ _ (narrow_back n (clauses xs) a))) ∙ sym (searched_clash (lower n (clauses xs)) n (clauses xs) t)
 
 rows_too_wide : (n : ℕ) (xs : List ℕ) → (Narrow n (clauses xs) → ⊥) → rows_answer n xs ≡ Err (fault 5 n)
@@ -58,11 +50,11 @@ module _ (n : ℕ) (xs : List ℕ) where
 
   pub node_back : (f : Fault) → IllFormed n xs f → node_answer n xs ≡ Err f
   node_back f (inl (e, h)) =
-      answer_is ∙ then_stop counted second (fault 2 n) (cond-false _ _ _ (not_so (whole xs) (λ t. h (uncut_from xs t)))) ∙ ap Err (sym e)
+      answer_is ∙ then_stop counted second (fault 2 n) (cond-false _ _ _ (false_from_ne_true (whole xs) (λ t. h (uncut_from xs t)))) ∙ ap Err (sym e)
   node_back f (inr (inl (e, u, h))) =
-      after_cut (uncut_back xs u) ∙ then_stop (tested (list_all in_order (clauses xs)) (fault 3 n)) (λ _. third (length (clauses xs))) (fault 3 n) (cond-false _ _ _ (not_so _ (λ t. h (sorted_from (clauses xs) t)))) ∙ ap Err (sym e)
+      after_cut (uncut_back xs u) ∙ then_stop (tested (list_all in_order (clauses xs)) (fault 3 n)) (λ _. third (length (clauses xs))) (fault 3 n) (cond-false _ _ _ (false_from_ne_true _ (λ t. h (sorted_from (clauses xs) t)))) ∙ ap Err (sym e)
   node_back f (inr (inr (inl (e, u, s, h)))) =
-      after_order (uncut_back xs u) (sorted_back (clauses xs) s) ∙ then_stop (tested (list_all (owned n) (clauses xs)) (fault 4 n)) (λ _. rows_answer n xs then (λ _. Ok (length (clauses xs)))) (fault 4 n) (cond-false _ _ _ (not_so _ (λ t. h (owned_from n (clauses xs) t)))) ∙ ap Err (sym e)
+      after_order (uncut_back xs u) (sorted_back (clauses xs) s) ∙ then_stop (tested (list_all (owned n) (clauses xs)) (fault 4 n)) (λ _. rows_answer n xs then (λ _. Ok (length (clauses xs)))) (fault 4 n) (cond-false _ _ _ (false_from_ne_true _ (λ t. h (owned_from n (clauses xs) t)))) ∙ ap Err (sym e)
   node_back f (inr (inr (inr (inl (e, u, s, o, h))))) =
       after_owner (uncut_back xs u) (sorted_back (clauses xs) s) (owned_back n (clauses xs) o) ∙ then_stop (rows_answer n xs) (λ _. Ok (length (clauses xs))) (fault 5 n) (rows_too_wide n xs h) ∙ ap Err (sym e)
   node_back f (inr (inr (inr (inr (e, u, s, o, a, h))))) =
@@ -91,7 +83,7 @@ module _ (ws : List ℕ) where
 
   pub refused_back : (f : Fault) → Refused ws f → take_in_answer ws ≡ Err f
   refused_back f (inl (e, h)) =
-      all_is ∙ then_stop head rest (fault 1 0) (cond-false _ _ _ (not_so (headed ws) (λ t. h (header_from ws t)))) ∙ ap Err (sym e)
+      all_is ∙ then_stop head rest (fault 1 0) (cond-false _ _ _ (false_from_ne_true (headed ws) (λ t. h (header_from ws t)))) ∙ ap Err (sym e)
   refused_back f (inr (inl (h, (k, l, g, b)))) =
       all_is ∙ then_at head rest (top ws) (cond-true _ _ _ (header_back ws h)) ∙ then_stop (nodes_answer ws (top ws)) count f (nodes_stay ws f (top ws - suc k) (suc k) (top ws) (omega arith) (nodes_stop ws k (total ws k) f (nodes_ok ws k g) (node_back (suc k) (run ws (suc k)) f b)))
   refused_back f (inr (inr (h, g, e, n))) =

@@ -28,9 +28,6 @@ so_far_on σ run ws c rest b d f i e =
 pub so_far_end : (σ : Assignment) (run ws : List ℕ) (b : Bool) → ws ≡ [] → SoFar σ run ws b → b ≡ sat σ (clauses run)
 so_far_end σ run ws b z i = sym (and_true b) ∙ ap (λ (z : List (List ℕ)). b && sat σ z) (sym (clauses_none ws z)) ∙ i
 
-pub so_far_none : (σ : Assignment) (run : List ℕ) → SoFar σ run run true
-so_far_none σ run = refl
-
 -- the rows so far
 abbrev pub RowsPassed : List ℕ → ℕ → List ℕ → ℕ → Bool → Type 0
 RowsPassed xs n run r loose = (some_row (no_value xs n (clauses run)) r ≡ false) × (loose ≡ some_row (two_values xs n (clauses run)) r)

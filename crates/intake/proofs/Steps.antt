@@ -96,9 +96,6 @@ module _ (n : ℕ) (ws : List ℕ) where
       ∙ ap (λ (r : Result (Unit {0}) Fault). r then (λ _. tested (list_all (owned n) (clauses ws)) (fault 4 n) then (λ _. rows_answer n ws then (λ _. Ok c)))) (sym (pass_whole in_order (fault 3 n) n ws w))
       ∙ ap (λ (r : Result (Unit {0}) Fault). ordered then (λ _. r then (λ _. rows_answer n ws then (λ _. Ok c)))) (sym (pass_whole (owned n) (fault 4 n) n ws w))
 
-  pub whole_from : (c : ℕ) → Ok c ≡ counted → whole ws ≡ true
-  whole_from c h = (cond_ok (whole ws) (length (clauses ws)) c (fault 2 n) (sym h)).0
-
   pub node_cut : (e : Fault) → Err e ≡ counted → Err e ≡ node_answer n ws
   unfolding node_answer
   node_cut e h = sym (then_stop counted _ e (sym h))
