@@ -1,4 +1,4 @@
-ghost use Rattle.std.specs.Prelude.{◌≡◌, ℕ, ◌+◌, ◌-◌, ◌*◌, ◌^◌, ◌<◌, ◌≤◌, Bool, true, false, List, [], length, if◌then◌else◌};
+ghost use Rattle.std.specs.Prelude.{◌≡◌, ℕ, ◌+◌, ◌-◌, ◌*◌, ◌^◌, ◌<◌, ◌≤◌, Bool, true, false, List, [], length, if◌then◌else◌, Some};
 ghost use Rattle.rings.specs.Left.{slots_left};
 ghost use Rattle.rules.specs.Store.{present, removed, retired};
 ghost use Rattle.scanned.specs.Layout.{At, Law, Sound, fitting, meaning_of, own_of};
@@ -66,6 +66,21 @@ impl<'a> Scanned<'a> {
             0
         };
         ring(self.words, HEADS, nodes, l)
+    }
+
+    // The literal and the place where slot h stands, if it stands in an own list: as many steps back to a head.
+    fn standing(&self, h: u32) -> Option<(u32, u32)>
+        ensures { (l i : ℕ) → At self.now.room self.now.words.now h l i → result ≡ Some (l, i) }
+    {
+        let mut x = h;
+        for i in 0..self.room {
+            let y = *self.words.get(2 * x as usize + 1)?;
+            if y < HEADS {
+                return Some((y, i));
+            }
+            x = y;
+        }
+        None
     }
 
     // Takes place i out of the own list of l, whose last clause comes there, and out of every list of uses. The answer is no, with
@@ -149,16 +164,8 @@ impl Lists for Scanned<'_> {
         self.own(l).nth(i as usize)
     }
 
-    fn place(&self, h: u32) -> Option<(u32, u32)> {
-        let mut x = h;
-        for i in 0..self.room {
-            let y = *self.words.get(2 * x as usize + 1)?;
-            if y < HEADS {
-                return Some((y, i));
-            }
-            x = y;
-        }
-        None
+    fn place(&self, h: u32) -> (u32, u32) {
+        self.standing(h).unwrap_or((0, 0))
     }
 
     fn clause(&self, h: u32) -> &[u32] {

@@ -56,9 +56,10 @@ pub trait Lists {
         at
     }
 
-    // The literal and the place where the handle's clause stands.
-    fn place(&self, h: Self::Handle) -> Option<(u32, u32)>
-        ensures { (l i : ℕ) → at self.now h l i → result ≡ Some (l, i) };
+    // The literal and the place where the handle's clause stands. No Option: a handle that stands would have each caller take out
+    // a place that is always there.
+    fn place(&self, h: Self::Handle) -> (u32, u32)
+        ensures { (l i : ℕ) → at self.now h l i → (result.0 ≡ l) × (result.1 ≡ i) };
 
     // The literals of the handle's clause.
     fn clause(&self, h: Self::Handle) -> &[u32]

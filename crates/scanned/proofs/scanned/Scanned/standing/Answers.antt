@@ -1,7 +1,7 @@
 use Rattle.std.proofs.Common.{◌≡◌, ◌+◌, ◌*◌, get_or, arith}
 use Rattle.scanned.proofs.Places.{back_start, back_in, back_done, back_more, back_short}
 use Rattle.scanned.proofs.Stores.{lawful, stands}
-use Rattle.scanned.proofs.scanned.ScannedLists.place.Goals as goal
+use Rattle.scanned.proofs.scanned.Scanned.standing.Goals as goal
 
 pub loop-i-init : goal.loop-i-init
 loop-i-init c = let s = c.args.self.now in back_start s.room s.indexed s.words.now (stands s) c.args.h
