@@ -7,10 +7,10 @@ pub trait Order {
     // The test of two entries that `before` makes.
     ghost ahead: { Self → ℕ → ℕ → Bool };
 
-    // What makes that an order.
-    ghost orders: { (s : Self) → Orders (ahead s) };
-
     // Whether `a` stands before `b`.
     fn before(&self, a: u32, b: u32) -> bool
         ensures { result ≡ ahead self.now a b };
+
+    // What makes that an order.
+    ghost orders: { (s : Self) → Orders (ahead s) };
 }
