@@ -13,7 +13,8 @@ use Rattle.scanned.specs.declared.scanned.Scanned.{Scanned}
 use Rattle.scanned.specs.Sums.{blank, total}
 use Rattle.scanned.specs.Layout.{At, Admitted, Filled, Joined, Kin, Loose, Whole, Wrote, meaning_of, node_count, own_of, rg, text_at}
 use Rattle.scanned.specs.Means.{means}
-use Rattle.scanned.proofs.Stores.{Kept, kept, lawful, stands}
+use Rattle.scanned.specs.Facts.{lawful}
+use Rattle.scanned.proofs.Stores.{Kept, kept, stands}
 use Rattle.scanned.proofs.Asks.{at_low, at_room}
 use Rattle.scanned.proofs.Fills.{filled_blank, filled_live, filled_whole, no_room_blank}
 use Rattle.scanned.proofs.Totals.{total_none}

@@ -1,4 +1,3 @@
-pub mod Laws
 pub mod Wholes
 pub mod Totals
 pub mod Fills

@@ -1,3 +1,4 @@
 pub mod Sums
 pub mod Layout
 pub mod Means
+pub mod Facts

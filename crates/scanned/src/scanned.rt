@@ -134,8 +134,6 @@ impl Lists for Scanned<'_> {
 
     ghost at = { λ s h l i. At s.room s.words.now h l i };
 
-    fn lawful(&self) {}
-
     fn room(&self) -> u32 {
         self.room
     }
@@ -207,4 +205,10 @@ impl Lists for Scanned<'_> {
         self.indexed = false;
         self.live = 0;
     }
+
+    ghost use Rattle.scanned.specs.Facts.{lawful, small};
+
+    ghost lawful = { lawful };
+
+    ghost small = { small };
 }

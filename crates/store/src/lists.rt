@@ -16,11 +16,6 @@ pub trait Lists {
     // The handle's clause stands at this place of this literal's own list.
     ghost at: { Self → Self.Handle → ℕ → ℕ → Type 0 };
 
-    // Says what holds of every store, and does nothing.
-    fn lawful(&self)
-        ensures laws { Lawful (meaning self.now) }
-        ensures small { (meaning self.now).room ≤ 4096 };
-
     // How many clauses can be kept.
     fn room(&self) -> u32
         ensures { result ≡ (meaning self.now).room };
@@ -79,4 +74,9 @@ pub trait Lists {
     // Leaves no clause and no index.
     fn empty(&mut self)
         ensures { meaning self.new ≡ emptied (meaning self.old) };
+
+    // What holds of every store.
+    ghost lawful: { (s : Self) → Lawful (meaning s) };
+
+    ghost small: { (s : Self) → (meaning s).room ≤ 4096 };
 }

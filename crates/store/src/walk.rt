@@ -7,7 +7,6 @@ use crate::lists::Lists;
 pub fn walked<S: Lists>(s: &S, l: u32) -> u32
     ensures { result ≡ length ((S.meaning s.now).own l) }
 {
-    s.lawful();
     let mut i = 0;
     let mut at = s.first(l);
     // A loop, for a handle is tied to its place by a relation, and no function gives the list of those left, as an iterator's would.

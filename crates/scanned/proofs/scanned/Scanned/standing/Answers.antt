@@ -1,6 +1,7 @@
 use Rattle.std.proofs.Common.{◌≡◌, ◌+◌, ◌*◌, get_or, arith}
 use Rattle.scanned.proofs.Places.{back_start, back_in, back_done, back_more, back_short}
-use Rattle.scanned.proofs.Stores.{lawful, stands}
+use Rattle.scanned.specs.Facts.{lawful}
+use Rattle.scanned.proofs.Stores.{stands}
 use Rattle.scanned.proofs.scanned.Scanned.standing.Goals as goal
 
 pub loop-i-init : goal.loop-i-init

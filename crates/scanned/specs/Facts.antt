@@ -1,14 +1,18 @@
--- A lawful meaning as a fact of a struct. Assumes nothing.
-use Rattle.std.proofs.Common.{true, length, ap}
+-- What holds of every scanned store. Assumes nothing.
+-- The proofs stand here, since the laws of the code's `impl` cite them.
+use Rattle.std.specs.Prelude.{◌≤◌, true, length}
+use Rattle.std.proofs.Common.{arith}
+use Rattle.std.proofs.lemmas.List.{nil_from_length}
 use mathlib.Core.Logic.{∥∥₁_elim}
 use native.Mathlib.Bridge.{le_prop}
 use denote.Struct.Props.{≡_prop}
 use base.Stored.{coded_ℕ, coded_bool}
-use Rattle.std.proofs.lemmas.List.{nil_from_length}
 use Rattle.network.specs.Clauses.{last, well_formed}
 use Rattle.rules.specs.Store.{Meaning}
 use Rattle.rules.specs.Lawful.{Lawful}
+use Rattle.scanned.specs.declared.scanned.Scanned.{Scanned}
 use Rattle.scanned.specs.Layout.{Law}
+use Rattle.scanned.specs.Means.{means}
 
 law_prop : (M : Meaning) → IsProp (Law M)
 law_prop M p q = λ i. record {
@@ -22,20 +26,7 @@ law_prop M p q = λ i. record {
   unindexed = λ e. (λ x. ≡_prop coded_ℕ (length (M.uses x)) 0 ((p.unindexed e).0 x) ((q.unindexed e).0 x) i, ≡_prop coded_ℕ M.dead_clauses 0 (p.unindexed e).1 (q.unindexed e).1 i);
 }
 
--- from what is known
-pub to_law : (M : Meaning) → Lawful M → ∥ Law M ∥₁
-to_law M L = ∣ record {
-  formed = L.formed;
-  placed = L.placed;
-  bounded = λ x h. ap length (L.bounded x h);
-  named = L.named;
-  once = L.once;
-  mourned = L.mourned;
-  within = L.within;
-  unindexed = λ e. (λ x. ap length ((L.unindexed e).0 x), (L.unindexed e).1);
-} ∣₁
-
--- and back
+-- a fact of the struct, as the meaning is lawful
 pub law : (M : Meaning) → ∥ Law M ∥₁ → Lawful M
 law M h =
     let w = ∥∥₁_elim h (law_prop M) (λ s. s) in
@@ -49,3 +40,11 @@ law M h =
       within = w.within;
       unindexed = λ e. (λ x. nil_from_length (M.uses x) ((w.unindexed e).0 x), (w.unindexed e).1);
     }
+
+-- the meaning is lawful
+pub lawful : (s : Scanned) → Lawful (means s)
+lawful s = law (means s) s.law
+
+-- the room is one that a store can have
+pub small : (s : Scanned) → (means s).room ≤ 4096
+small s = let h = s.small in omega arith
