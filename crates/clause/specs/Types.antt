@@ -3,7 +3,7 @@ use Rattle.std.specs.Prelude.{ℕ, Bool, true, false, cond, not, List, Some, Non
 use Rattle.network.specs.Values.{Values}
 use Rattle.clause.specs.declared.literals.Lit.{Lit}
 use Rattle.clause.specs.declared.literals.Lbool.{Lbool}
-use Rattle.clause.specs.declared.literals.Lbool.TheVariants.{False, True, None as Unknown}
+use Rattle.clause.specs.declared.literals.Lbool.TheVariants.{False, True, Unknown}
 
 -- what a known value tells of a node
 abbrev pub told : Lbool → Option Bool

@@ -59,7 +59,7 @@ impl Lit {
         self.word % 2 == 0
     }
 
-    // The literal of the same node with the other sign.
+    // The literal of the same node with the other sign. The source's operators on literals and values are named functions here.
     pub fn opposite(self) -> Lit
         ensures { result.word ≡ opposite self.word }
     {
@@ -69,12 +69,12 @@ impl Lit {
     }
 }
 
-// What is known of a node or a literal.
+// What is known of a node or a literal. An own type and no Option of bool, since it is the source's, with its questions.
 #[derive(Clone, Copy, PartialEq, Eq, Debug)]
 pub enum Lbool {
     False,
     True,
-    None,
+    Unknown,
 }
 
 // The value, known.
@@ -94,7 +94,7 @@ impl From<u8> for Lbool {
         match byte {
             0 => Lbool::False,
             1 => Lbool::True,
-            _ => Lbool::None,
+            _ => Lbool::Unknown,
         }
     }
 }
@@ -118,7 +118,7 @@ impl Lbool {
     pub fn is_none(self) -> bool
         ensures { result ≡ not (is_some (told self)) }
     {
-        self == Lbool::None
+        self == Lbool::Unknown
     }
 
     // What is then known of the opposite.
@@ -128,7 +128,7 @@ impl Lbool {
         match self {
             Lbool::False => Lbool::True,
             Lbool::True => Lbool::False,
-            Lbool::None => Lbool::None,
+            Lbool::Unknown => Lbool::Unknown,
         }
     }
 }

@@ -7,7 +7,7 @@ ghost use Rattle.network.specs.Resolution.{resolve};
 
 use crate::literals::Lit;
 
-// A resolvent as far as it is written: `len` literals at the front of `out`.
+// A resolvent as far as it is written: `len` literals at the front of `out`, which is lent and has no length of its own.
 #[derive(Drop)]
 struct Merged<'o> {
     out: &'o mut [u32],
@@ -15,7 +15,7 @@ struct Merged<'o> {
 }
 
 impl Merged<'_> {
-    // Adds a literal, unless its node is that of the last one.
+    // Adds a literal; none, and nothing added, where its node is that of the last one.
     fn push(&mut self, l: u32) -> Option<()>
         requires { self.old.len < length self.old.out.now }
         ensures same_reference { self.new.out.ghost_name ≡ self.old.out.ghost_name }

@@ -3,7 +3,7 @@ ghost use Rattle.std.specs.Prelude.{◌≡◌, ℕ, true, false, List, None, nat
 ghost use Rattle.network.specs.Signature.{signature, Covers, within, missing};
 ghost use Rattle.network.specs.Subsumption.{part_of, fits};
 
-// 128 bits in two halves of 64, to which each literal of a clause adds the bit of its number modulo 128.
+// 128 bits in two halves of 64 (docs/DECISIONS.md, 9), to which each literal of a clause adds the bit of its number modulo 128.
 #[derive(Clone, Copy, PartialEq, Eq, Debug)]
 pub struct Signature {
     pub low: u64,
@@ -42,6 +42,7 @@ impl Signature {
         ensures test { result ≡ nat_le (missing (self.low, self.high) (other.low, other.high)) 1 }
         ensures spares { (C D : List ℕ) → signature C ≡ (self.low, self.high) → Covers (other.low, other.high) D → result ≡ false → fits C D ≡ (false, None) }
     {
+        // The bits that the other lacks.
         let low = self.low - (self.low & other.low);
         let high = self.high - (self.high & other.high);
         match (low, high) {

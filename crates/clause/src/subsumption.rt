@@ -7,7 +7,7 @@ ghost use Rattle.std.specs.Prelude.{◌≡◌};
 
 use crate::literals::Lit;
 
-// Whether each literal of `a` stands in `b`.
+// Whether each literal of `a` stands in `b`. Not the first half of the pair below: where `b` names a node twice, the two differ.
 pub fn ordered_subsume(a: &[u32], b: &[u32]) -> bool
     ensures { result ≡ part_of a.now b.now }
 {
@@ -29,6 +29,7 @@ pub fn ordered_subsume(a: &[u32], b: &[u32]) -> bool
 }
 
 // Whether each literal of `a` stands in `b`, and otherwise the literal that stands there with the opposite sign, if the others do.
+// The pair is the source's: (true, None), (false, Some) or (false, None).
 pub fn ordered_subsume_execpt_one(a: &[u32], b: &[u32]) -> (bool, Option<Lit>)
     ensures { worded result ≡ fits a.now b.now }
 {

@@ -13,7 +13,7 @@ pub fn value_of(values: &[Lbool], l: Lit) -> Lbool
     match values.get(l.var().number as usize) {
         Some(value) if l.polarity() => *value,
         Some(value) => value.opposite(),
-        None => Lbool::None,
+        None => Lbool::Unknown,
     }
 }
 
@@ -25,12 +25,13 @@ pub fn ordered_simp(clause: &[u32], values: &[Lbool], out: &mut [u32]) -> Option
     if out.len() < clause.len() {
         return None;
     }
+    // `out` is lent and has no length of its own, so that `n` counts what is written.
     let mut n = 0;
     for l in clause {
         match value_of(values, Lit::from(*l)) {
             Lbool::True => return None,
             Lbool::False => {}
-            Lbool::None => {
+            Lbool::Unknown => {
                 out[n] = *l;
                 n += 1;
             }

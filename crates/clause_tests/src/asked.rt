@@ -3,8 +3,11 @@ use crate::table::{Row, numbers, read_row};
 use clause::{Lbool, Signature};
 use std::alloc::{AllocError, Global};
 
+// The words lent for a clause here, and the nodes with a value.
+const MOST: usize = 32;
+
 // How many answers there were of each kind.
-#[derive(Drop)]
+#[derive(Default, Drop)]
 pub struct Counts {
     pub pairs: u32,
     pub subsumed: u32,
@@ -31,26 +34,10 @@ fn agrees(n: Option<usize>, out: &[u32], recorded: Option<&[u32]>) -> bool {
 
 // What a recorded value says.
 fn value(recorded: u32) -> Lbool {
-    u8::try_from(recorded).map_or(Lbool::None, Lbool::from)
+    u8::try_from(recorded).map_or(Lbool::Unknown, Lbool::from)
 }
 
 impl Counts {
-    pub fn new() -> Counts {
-        Counts {
-            pairs: 0,
-            subsumed: 0,
-            odd: 0,
-            simplified: 0,
-            gone: 0,
-            left: 0,
-            resolved: 0,
-            tautologies: 0,
-            spared: 0,
-            differences: 0,
-            first: None,
-        }
-    }
-
     // Notes an answer that is not the recorded one.
     fn note(&mut self, agrees: bool, what: &'static str) {
         if !agrees {
@@ -71,8 +58,9 @@ impl Counts {
     }
 
     fn ask_simplification(&mut self, alloc: Global, row: &Row) -> Result<(), AllocError> {
-        let values: Vec<Lbool> = row.values.iter().map(|v| value(*v)).collect(alloc)?;
-        let mut out = vec![in alloc; 0u32; row.a.len()]?;
+        let mut values: Vec<Lbool> = row.values.iter().map(|v| value(*v)).collect(alloc)?;
+        values.resize(MOST, Lbool::Unknown)?;
+        let mut out = vec![in alloc; 0u32; MOST]?;
         let n = clause::ordered_simp(row.a, values.as_slice(), out.as_mut_slice());
         match n {
             Some(n) => {
@@ -89,7 +77,7 @@ impl Counts {
         let Some(pivot) = row.pivot else {
             return Ok(());
         };
-        let mut out = vec![in alloc; 0u32; row.a.len().saturating_add(row.b.len())]?;
+        let mut out = vec![in alloc; 0u32; 2 * MOST]?;
         let n = clause::ordered_resolvent(row.a, row.b, pivot, out.as_mut_slice());
         self.resolved = self.resolved.wrapping_add(1);
         self.tautologies = self.tautologies.wrapping_add(u32::from(n.is_none()));

@@ -11,7 +11,7 @@ mod table;
 use asked::Counts;
 
 fn run(rt: &HostRuntime) -> anyhow::Result<()> {
-    let mut counts = Counts::new();
+    let mut counts = Counts::default();
     for line in rt.lines(rt.alloc()) {
         let line = line?;
         counts.ask_line(rt.alloc(), line.as_str())?;

@@ -7,7 +7,6 @@
 
 pub mod fault;
 pub mod header;
-pub mod lower;
 pub mod lowers;
 pub mod reader;
 pub mod shape;

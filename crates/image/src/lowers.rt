@@ -5,9 +5,12 @@ ghost use Rattle.network.specs.Rows.{lower as lower_of, noted, noted_in};
 ghost use Rattle.std.specs.Prelude.{◌≡◌, ◌<◌, ◌≤◌, true, false, ◌⊎◌, [], length, Ok, Err};
 
 use crate::fault::{Fault, Refusal};
-use crate::lower::Lower;
 use crate::reader::Run;
 use arrayvec::ArrayVec;
+
+// The lower nodes that the clauses of a node name, at most eight.
+#[derive(Drop)]
+pub struct Lower(pub(crate) ArrayVec<u32, 8>);
 
 impl Lower {
     // No node.

@@ -24,6 +24,7 @@ impl<'i> Run<'i> {
         ensures { result ≡ (if whole self.entry.words.now then Ok (length (clauses self.entry.words.now)) else Err (fault 2 self.entry.node)) }
     {
         let mut count = 0;
+        // No `count`, which would count a fault too.
         for clause in self.clauses() {
             clause?;
             count += 1;
@@ -32,10 +33,10 @@ impl<'i> Run<'i> {
     }
 }
 
-// A walk over the clauses of a run. At a length that is 0 or passes the end it gives the fault, and then nothing.
+// A walk over the clauses of a run; `left` is what follows the last one given. At a length that is 0 or passes the end it gives the fault, and then nothing.
 #[derive(Drop)]
 pub struct Clauses<'i> {
-    pub(crate) left: Run<'i>,
+    pub left: Run<'i>,
 }
 
 impl<'i> Iterator for Clauses<'i> {

@@ -5,7 +5,7 @@ ghost use Rattle.network.specs.Clauses.{in_order, owned, owner};
 use crate::fault::Fault;
 use crate::reader::Run;
 
-// A test that every clause of a run has to pass.
+// A test that every clause of a run has to pass. No closure: the member `pass` names the test in what a walk promises.
 pub trait ClauseTest {
     ghost pass: { Self → List ℕ → Bool };
 
@@ -39,7 +39,7 @@ impl ClauseTest for OwnedBy {
     }
 }
 
-// The node of a clause's last literal, 0 for the empty clause.
+// The node of a clause's last literal; 0 for the empty clause, as the definition `owner` has it.
 pub fn owner_of(clause: &[u32]) -> u32
     ensures { result ≡ owner clause.now }
 {

@@ -3,7 +3,7 @@ ghost use Rattle.input.specs.Inputs.{input_words};
 
 use image::fault::{Fault, Refusal};
 
-// Writes the words of an input to the front of `out`, and says how many there are; refused above 65,536 bytes and at a
+// Writes the words of an input to the front of the lent `out`, and says how many there are; refused above 65,536 bytes and at a
 // broken last word.
 pub fn decode(bytes: &[u8], out: &mut [u32; 16384]) -> Result<usize, Fault>
     ensures { elim result [ Ok n ↦ (n ≤ 16384) × (input_words bytes.now ≡ Ok (take n out.new)) × (drop n out.new ≡ drop n out.old) | Err f ↦ (input_words bytes.now ≡ Err f) × (out.new ≡ out.old) ] }

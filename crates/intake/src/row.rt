@@ -12,7 +12,8 @@ pub(crate) struct Row<'l> {
 }
 
 impl Row<'_> {
-    // The value that the row gives a lower node.
+    // The value that the row gives a lower node: a digit of its number. Halved at each node, since a shift by the node's place would
+    // need that place below 32, and `low` may be of any length.
     fn lower(self, node: u32) -> bool
         ensures { result ≡ row_of self.entry.low.now self.entry.number node }
     {
@@ -26,7 +27,7 @@ impl Row<'_> {
         false
     }
 
-    // Whether a literal is true.
+    // Whether a literal is true. Its node is its half: this crate does not rest on `clause`.
     fn literal(self, literal: u32) -> bool
         ensures { result ≡ lit (put (row_of self.entry.low.now self.entry.number) self.entry.node self.entry.value) literal }
     {

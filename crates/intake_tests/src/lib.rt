@@ -25,23 +25,17 @@ mod tests {
     // An image of so many nodes without clauses.
     fn empty_runs(heap: Global, top: u32) -> Result<Vec<u32>, AllocError> {
         let mut words = vec![in heap; top, 0]?;
-        for _k in 0..=top {
-            words.push(top.saturating_add(3))?;
-        }
+        words.resize(top as usize + 3, top.saturating_add(3))?;
         Ok(words)
     }
 
     // Node `top` has one clause of the literals of the nodes 1 to `top`, all true.
     fn one_wide(heap: Global, top: u32) -> Result<Vec<u32>, AllocError> {
         let mut words = vec![in heap; top, 1]?;
-        for _k in 0..top {
-            words.push(top.saturating_add(3))?;
-        }
+        words.resize(top as usize + 2, top.saturating_add(3))?;
         words.push(top.saturating_mul(2).saturating_add(4))?;
         words.push(top)?;
-        for n in 1..=top {
-            words.push(n.saturating_mul(2))?;
-        }
+        words.extend((1..=top).map(|n| n.saturating_mul(2)))?;
         Ok(words)
     }
 

@@ -5,7 +5,8 @@ ghost use Rattle.std.specs.Prelude.{◌≡◌, ◌≤◌, MatchOption, is_some, 
 use crate::sort::sort;
 use crate::words::{Clauses, WIDTH};
 
-// The words that a simplification is lent.
+// The words that a simplification is lent: five slices, and no `Clauses` with three more, so that a caller learns what each
+// holds afterwards.
 #[derive(Drop)]
 pub struct Lemmas<'w> {
     // Clause k has its length at `lengths[k]` and its literals from `literals[32 * k]` on.
@@ -22,7 +23,7 @@ pub struct Lemmas<'w> {
 fn are_short(lengths: &[u32]) -> bool
     ensures { Decides result (EachIndex lengths.now (λ k. slice_index lengths.now k ≤ 32)) }
 {
-    lengths.iter().all(|&long| long as usize <= WIDTH)
+    lengths.iter().all(|&len| len as usize <= WIDTH)
 }
 
 impl Lemmas<'_> {

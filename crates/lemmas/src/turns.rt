@@ -4,10 +4,10 @@ ghost use Rattle.std.specs.Prelude.{◌≡◌, ◌<◌};
 
 use crate::words::{Clauses, Meeting};
 
-// What the turn of a clause has left.
+// What a turn came to. How many are left counts with another turn and without, so it is no Option.
 #[derive(Clone, Copy)]
 struct Turn {
-    // How many clauses are left with those before it.
+    // How many clauses of the line are left.
     left: usize,
     // Whether it lost a literal, and so has its turn again.
     again: bool,
@@ -48,10 +48,11 @@ impl Clauses<'_> {
     {
         let mut at = 0;
         let mut left = n;
+        // No `for`: `at` stands still for a clause that has its turn again, and `left` falls.
         while at < left {
-            let Turn { left: kept, again } = self.sweep(order, at, left);
-            left = kept;
-            if !again {
+            let turn = self.sweep(order, at, left);
+            left = turn.left;
+            if !turn.again {
                 at += 1;
             }
         }

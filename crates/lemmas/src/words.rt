@@ -35,8 +35,8 @@ impl Clauses<'_> {
         ensures { result.now ≡ lemma_at self.now number }
     {
         let from = WIDTH * number as usize;
-        let long = self.lengths[number as usize] as usize;
-        &self.literals[from..from + long]
+        let len = self.lengths[number as usize] as usize;
+        &self.literals[from..from + len]
     }
 
     // Takes a literal from a clause.
@@ -46,8 +46,8 @@ impl Clauses<'_> {
         ensures lost { lemma_at self.new number ≡ without literal.word (lemma_at self.old number) }
     {
         let from = WIDTH * number as usize;
-        let long = self.lengths[number as usize] as usize;
-        let left = drop_literal(&mut self.literals[from..from + long], literal);
+        let len = self.lengths[number as usize] as usize;
+        let left = drop_literal(&mut self.literals[from..from + len], literal);
         self.lengths[number as usize] = left as u32;
     }
 

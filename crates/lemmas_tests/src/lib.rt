@@ -11,15 +11,10 @@ mod tests {
     fn resolvents_become_fewer(rt: HostRuntime) {
         let mut lengths = [3, 2, 2, 2];
         let mut literals = [0u32; 128];
-        literals[0] = 5;
-        literals[1] = 7;
-        literals[2] = 9;
-        literals[32] = 2;
-        literals[33] = 6;
-        literals[64] = 3;
-        literals[65] = 6;
-        literals[96] = 6;
-        literals[97] = 8;
+        literals[..3].copy_from_slice(&[5, 7, 9]);
+        literals[32..34].copy_from_slice(&[2, 6]);
+        literals[64..66].copy_from_slice(&[3, 6]);
+        literals[96..98].copy_from_slice(&[6, 8]);
         let mut order = [9u32; 4];
         let mut words = Lemmas {
             lengths: &mut lengths,

@@ -1,7 +1,7 @@
 // The queue, written once for every kind of entry.
 //
 // Each kind brings an order in which any two different entries stand strictly one before the other
-// (`Order`). The queue hands out the first. It is a binary heap over lent words: one slice holds the
+// (`Order`), most simply by a key (`Keyed`). The queue hands out the first. It is a binary heap over lent words: one slice holds the
 // entries that wait, another the place of each, so that an entry whose standing has changed is found
 // and moved to its place.
 //

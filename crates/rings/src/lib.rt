@@ -3,7 +3,8 @@
 // Holds the writers of rings (`unlink`, `link`, `shift`, `swap_out`, `scatter`), the readers `after` and `ring`, and the laws that
 // say what each makes of the lists (specs/, proofs/). Node n has two words: at 2n the node after it, at 2n + 1 the node before it.
 // Nodes below a number of heads are heads; the others are slots, and a slot in no ring is linked to itself. The links are numbers in
-// words, for a store has no memory but what it is lent.
+// words, for a store has no memory but what it is lent. These are functions over words and no struct: a store's words hold its
+// clauses too, and a change of a store makes all its writes in one borrow of them.
 // Promises: each function writes and answers exactly what its definition says, on any words at all, and asks nothing of a
 // caller; where rings stand, each changes the lists as the laws say. Rests on nothing but the standard library.
 #![tactic(auto)]
@@ -22,14 +23,11 @@ fn inside(ws: &[u32], n: u32) -> bool
     2 * (n as usize) + 1 < ws.len()
 }
 
-// Whether node n and the nodes beside it are there. A writer asks before its first write, so it makes all its writes or none.
+// Whether node n and the nodes beside it are there. `unlink` and `link` ask before the first write, so that each makes all its writes or none.
 fn knotted_in(ws: &[u32], n: u32) -> bool
     ensures { result ≡ knotted ws.now n }
 {
-    if !inside(ws, n) {
-        return false;
-    }
-    inside(ws, ws[2 * n as usize]) && inside(ws, ws[2 * n as usize + 1])
+    inside(ws, n) && inside(ws, ws[2 * n as usize]) && inside(ws, ws[2 * n as usize + 1])
 }
 
 // Takes node s out of its ring; it stands alone then.
@@ -124,14 +122,14 @@ impl Iterator for Slots<'_> {
     }
 }
 
-// The node after node n; 0 where its word is not there.
+// The node after node n; 0, a head, where its word is not there, so that a walk ends.
 fn next_in(ws: &[u32], n: u32) -> u32
     ensures { result ≡ next ws.now n }
 {
     ws.get(2 * n as usize).copied().unwrap_or(0)
 }
 
-// The slots of the ring of l, of so many nodes.
+// The slots of the ring of l, among `nodes` nodes in all.
 pub fn ring(ws: &[u32], heads: u32, nodes: u32, l: u32) -> Slots<'_>
     ensures { slots_left result ≡ ring heads nodes ws.now l }
 {
@@ -151,6 +149,7 @@ pub fn scatter(ws: &mut [u32], nodes: u32)
     if ws.len() / 2 < nodes as usize {
         return;
     }
+    // By number, since nothing is proved of what a walk by `iter_mut` and an adapter leaves.
     for n in 0..nodes {
         ws[2 * n as usize] = n;
         ws[2 * n as usize + 1] = n;

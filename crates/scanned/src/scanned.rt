@@ -68,7 +68,7 @@ impl<'a> Scanned<'a> {
         ring(self.words, HEADS, nodes, l)
     }
 
-    // The literal and the place where slot h stands, if it stands in an own list: as many steps back to a head.
+    // The head of the ring that has slot h, and how many steps back it is: for a slot of an own list, its literal and its place.
     fn standing(&self, h: u32) -> Option<(u32, u32)>
         ensures { (l i : ℕ) → At self.now.room self.now.words.now h l i → result ≡ Some (l, i) }
     {
@@ -110,6 +110,7 @@ impl<'a> Scanned<'a> {
             return false;
         };
         let n = x + self.room;
+        // It is retired if the sequence has it, and else free.
         let h = if self.words[2 * n as usize] == n {
             FREE
         } else {

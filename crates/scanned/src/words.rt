@@ -6,19 +6,19 @@ use image::shape::{ClauseTest, InOrder};
 use rings::{after, link, scatter, shift, unlink};
 
 // How many literals there are: the heads below are those of their own lists.
-pub const LITERALS: u32 = 2048;
+pub(crate) const LITERALS: u32 = 2048;
 
 // The head of the free slots.
-pub const FREE: u32 = 2048;
+pub(crate) const FREE: u32 = 2048;
 
 // The head of the slots of retired clauses.
-pub const RETIRED: u32 = 2049;
+pub(crate) const RETIRED: u32 = 2049;
 
 // The head of the sequence of indexed clauses.
-pub const SEQUENCE: u32 = 2050;
+pub(crate) const SEQUENCE: u32 = 2050;
 
 // How many heads there are, and the node of the first slot.
-pub const HEADS: u32 = 2051;
+pub(crate) const HEADS: u32 = 2051;
 
 // How many words a slot has: its length, the length that the index knows it by, and its literals.
 const SLOT: usize = 34;
@@ -27,7 +27,7 @@ const SLOT: usize = 34;
 const LONGEST: usize = 32;
 
 // How many nodes there are.
-pub fn nodes(room: u32) -> u32
+pub(crate) fn nodes(room: u32) -> u32
     requires { room < 4097 }
     ensures { result ≡ node_count room }
 {
@@ -35,14 +35,14 @@ pub fn nodes(room: u32) -> u32
 }
 
 // Where the words of slot x begin.
-pub fn text_at(room: u32, x: u32) -> usize
+pub(crate) fn text_at(room: u32, x: u32) -> usize
     ensures { result ≡ text_at room x }
 {
     2 * (HEADS as usize + 2 * room as usize) + SLOT * x.saturating_sub(HEADS) as usize
 }
 
 // Writes a clause to the words of a slot.
-pub fn write(ws: &mut [u32], b: usize, clause: &[u32])
+pub(crate) fn write(ws: &mut [u32], b: usize, clause: &[u32])
     requires { (b + 34 ≤ length ws.old) × (length clause.now < 33) }
     ensures { Wrote ws.old ws.new b clause.now }
 {
@@ -53,7 +53,7 @@ pub fn write(ws: &mut [u32], b: usize, clause: &[u32])
 }
 
 // Whether a clause is well formed.
-pub fn well_formed(c: &[u32]) -> bool
+pub(crate) fn well_formed(c: &[u32]) -> bool
     ensures { result ≡ well_formed c.now }
 {
     match c {
@@ -63,7 +63,7 @@ pub fn well_formed(c: &[u32]) -> bool
 }
 
 // Each slot free, and every other node alone.
-pub fn clear(ws: &mut [u32], room: u32)
+pub(crate) fn clear(ws: &mut [u32], room: u32)
     requires { (room < 4097) × (2 * node_count room ≤ length ws.old) }
     ensures filled { Filled room ws.new room }
     ensures long { length ws.new ≡ length ws.old }
@@ -74,8 +74,9 @@ pub fn clear(ws: &mut [u32], room: u32)
     }
 }
 
-// Takes every node out of the sequence.
-pub fn cut_sequence(ws: &mut [u32], room: u32)
+// Takes every node out of the sequence. Beside `free_retired`: one walk for both would take what is done to a node as a closure, with
+// a contract about it. Words and room come apart, since a change writes in one borrow of its words.
+pub(crate) fn cut_sequence(ws: &mut [u32], room: u32)
     requires { Whole room true ws.old }
     ensures whole { Whole room true ws.new }
     ensures kin { Kin room ws.old ws.new }
@@ -87,7 +88,7 @@ pub fn cut_sequence(ws: &mut [u32], room: u32)
 }
 
 // Frees every retired slot.
-pub fn free_retired(ws: &mut [u32], room: u32)
+pub(crate) fn free_retired(ws: &mut [u32], room: u32)
     requires { Whole room true ws.old × (rg room ws.old 2050 ≡ []) }
     ensures whole { Whole room true ws.new }
     ensures kin { Kin room ws.old ws.new }

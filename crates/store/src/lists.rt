@@ -40,19 +40,19 @@ pub trait Lists {
     fn next(&self, h: Self::Handle) -> Option<Self::Handle>
         ensures { (l i : ℕ) → at self.now h l i → elim result [ None ↦ length ((meaning self.now).own l) ≡ i + 1 | Some k ↦ at self.now k l (i + 1) × (i + 1 < length ((meaning self.now).own l)) ] };
 
-    // The clause at place i of the own list of l.
+    // The clause at place i of the own list of l. A place is two arguments and no struct, as `at` and the rules take it.
     fn nth(&self, l: u32, i: u32) -> Option<Self::Handle>
         ensures { elim result [ None ↦ length ((meaning self.now).own l) ≤ i | Some h ↦ at self.now h l i × (i < length ((meaning self.now).own l)) ] }
     {
         let mut at = self.first(l);
-        for k in 0..i {
+        for _k in 0..i {
             at = self.next(at?);
         }
         at
     }
 
-    // The literal and the place where the handle's clause stands. No Option: a handle that stands would have each caller take out
-    // a place that is always there.
+    // The literal and the place where the handle's clause stands. No Option: it would be Some for every
+    // handle that stands, and each caller would have to take it apart.
     fn place(&self, h: Self::Handle) -> (u32, u32)
         ensures { (l i : ℕ) → at self.now h l i → (result.0 ≡ l) × (result.1 ≡ i) };
 
@@ -60,7 +60,8 @@ pub trait Lists {
     fn clause(&self, h: Self::Handle) -> &[u32]
         ensures { (l i : ℕ) → at self.now h l i → result.now ≡ clause_at (meaning self.now) l i };
 
-    // Appends a clause to the own list of its last literal and, with an index, to the uses of its other literals. Handles keep their places.
+    // Appends a clause to the own list of its last literal and, with an index, to the uses of its other literals. The answer is no,
+    // with nothing changed, where it is ill formed or there is no room. Handles keep their places.
     fn enter(&mut self, clause: &[u32]) -> bool
         ensures when { result ≡ enterable (meaning self.old) clause.now }
         ensures makes { meaning self.new ≡ (if result then entered clause.now (meaning self.old) else meaning self.old) }

@@ -45,7 +45,8 @@ pub trait Store: Lists {
     }
 
     // Takes the handle's clause out of its own list, whose last clause comes to its place, and out of every list of uses. The answer is
-    // the clause that stands at the place now, if one does; none, with nothing changed, where the handle stands for no clause.
+    // the clause that stands at the place now, if one does. The outer None is a store's no: the handle stands for no clause, and nothing
+    // has changed.
     fn remove_at(&mut self, h: Self::Handle) -> Option<Option<Self::Handle>>
         ensures absent { ((l i : ℕ) → Self.at self.old h l i → ⊥) → (result ≡ None) × (Self.meaning self.new ≡ Self.meaning self.old) }
         ensures makes { (l i : ℕ) → Self.at self.old h l i → Self.meaning self.new ≡ removed l i (Self.meaning self.old) }

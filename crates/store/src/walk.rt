@@ -22,6 +22,7 @@ pub fn walked_all<S: Lists>(s: &S) -> u64
     ensures { result ≡ live_clauses (S.meaning s.now) }
 {
     let mut n = 0u64;
+    // No `sum`, which would ask beforehand that the whole fits.
     for l in 0..2048 {
         n += walked(s, l) as u64;
     }

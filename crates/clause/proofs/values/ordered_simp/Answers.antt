@@ -4,7 +4,7 @@ use Rattle.clause.specs.Types.{told, values_of}
 use Rattle.clause.proofs.Fronts.{sofar_same, sofar_more, sofar_fails, sofar_ends, room_enough}
 use Rattle.clause.proofs.Simps.{simp_more, simp_kept, simp_end}
 use Rattle.clause.proofs.values.ordered_simp.Goals as goal
-use Rattle.clause.proofs.values.ordered_simp.Goals.{After-value_of, in-False, in-None}
+use Rattle.clause.proofs.values.ordered_simp.Goals.{After-value_of, in-False, in-Unknown}
 
 -- what is known of a literal
 known : (c : After-value_of) → literal (values_of c.args.values.now) (get_or c.args.clause.now c.loop-l.l-index 0) ≡ told c.value_of.result
@@ -27,9 +27,9 @@ loop-l-preserved c =
     let next = simplified V (drop (l.l-index + 1) C) in
     elim c.match-value_of.branch [
       | in-False w ↦ rw (w.out-is, w.n-is) (omega arith, sofar_same l.invariant.1 next (simp_more V C l.l-index (Some false) (omega arith) (k ∙ ap told w.in-False.is)))
-      | in-None w ↦
+      | in-Unknown w ↦
           rw (w.out-is, w.n-is)
-          (omega arith, sofar_more l.invariant.1 next (get_or C l.l-index 0) (omega arith) (simp_kept V C l.l-index (omega arith) (k ∙ ap told w.in-None.is)))
+          (omega arith, sofar_more l.invariant.1 next (get_or C l.l-index 0) (omega arith) (simp_kept V C l.l-index (omega arith) (k ∙ ap told w.in-Unknown.is)))
     ]
 
 pub returns : goal.returns

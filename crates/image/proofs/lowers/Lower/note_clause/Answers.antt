@@ -1,7 +1,7 @@
 use Rattle.std.proofs.Common.{arith}
 use Rattle.std.proofs.lemmas.Result.{err_from_is_err_and}
 use Rattle.image.proofs.Notes.{note_full}
-use Rattle.image.proofs.lower.Lower.note_clause.Goals as goal
+use Rattle.image.proofs.lowers.Lower.note_clause.Goals as goal
 
 pub returns-in_err-note : goal.returns-in_err-note
 returns-in_err-note c =
