@@ -37,26 +37,25 @@ pub fn ordered_subsume_execpt_one(a: &[u32], b: &[u32]) -> (bool, Option<Lit>)
         return (false, None);
     }
     let mut noted: Option<Lit> = None;
-    // The place in `a`: with the rest of `a` as a slice, as above, the walk takes a quarter more instructions (0.98 of the source's, not 0.79).
-    let mut i = 0;
+    let mut rest = a;
     for word in b {
-        if i == a.len() {
+        let [first, after_first @ ..] = rest else {
             break;
-        }
-        let (c, d) = (Lit::from(a[i]), Lit::from(*word));
+        };
+        let (c, d) = (Lit::from(*first), Lit::from(*word));
         if c == d {
-            i += 1;
+            rest = after_first;
         } else if c.var() == d.var() {
             if noted.is_some() {
                 return (false, None);
             }
             noted = Some(c);
-            i += 1;
+            rest = after_first;
         } else if c.word < d.word {
             return (false, None);
         }
     }
-    if i < a.len() {
+    if !rest.is_empty() {
         return (false, None);
     }
     (noted.is_none(), noted)

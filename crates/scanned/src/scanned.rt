@@ -83,6 +83,8 @@ impl<'a> Scanned<'a> {
         None
     }
 
+    // Removal and retirement by place stand here until the rest of `Store` is there, whose methods promise the same.
+
     // Takes place i out of the own list of l, whose last clause comes there, and out of every list of uses. The answer is no, with
     // nothing changed, where there is no such place.
     pub fn remove(&mut self, l: u32, i: u32) -> bool

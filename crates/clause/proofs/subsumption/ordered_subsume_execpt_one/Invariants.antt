@@ -1,7 +1,7 @@
-use Rattle.std.proofs.Common.{◌≡◌, ◌≤◌, length, drop}
+use Rattle.std.proofs.Common.{◌≡◌, drop}
 use Rattle.network.specs.Subsumption.{fits_from, fits_but_one}
 use Rattle.clause.proofs.Walks.{word_of}
 use Rattle.clause.proofs.subsumption.ordered_subsume_execpt_one.Given as goal
 
 abbrev pub invariant-loop-word : goal.invariant-loop-word
-invariant-loop-word l = (l.i ≤ length l.a) × (fits_from (word_of l.noted) (drop l.i l.a) (drop l.word-index l.b) ≡ fits_but_one l.a l.b)
+invariant-loop-word l = fits_from (word_of l.noted) l.rest (drop l.word-index l.b) ≡ fits_but_one l.a l.b
