@@ -28,6 +28,19 @@ unsafe extern "C" {
     fn rattle_drop(c: *mut u32, n: usize, literal: u32) -> usize;
     fn rattle_signature(c: *const u32, n: usize, low: *mut u64, high: *mut u64);
     fn rattle_may_subsume(a_low: u64, a_high: u64, b_low: u64, b_high: u64) -> bool;
+    fn rattle_lemmas(
+        lengths: *mut u32,
+        n: usize,
+        literals: *mut u32,
+        m: usize,
+        order: *mut u32,
+        o: usize,
+        entries: *mut u32,
+        e: usize,
+        places: *mut u32,
+        p: usize,
+        count: u32,
+    ) -> usize;
     fn rattle_may_fit(a_low: u64, a_high: u64, b_low: u64, b_high: u64) -> bool;
 }
 
@@ -81,6 +94,12 @@ fn source_may_subsume(a: u128, b: u128) -> bool {
 #[unsafe(no_mangle)]
 fn source_may_fit(a: u128, b: u128) -> bool {
     may_fit(a, b)
+}
+
+#[inline(never)]
+#[unsafe(no_mangle)]
+fn source_lemmas(cs: Vec<LitOrdVec>) -> Vec<LitOrdVec> {
+    lemmas_subsume_simplify(cs)
 }
 
 struct Rng(u64);
@@ -146,6 +165,47 @@ fn pivoted(g: &mut Rng, a: &[u32], b: &[u32]) -> (Vec<u32>, Vec<u32>, u32) {
     a.push(p);
     b.push(p ^ 1);
     (a, b, p)
+}
+
+// What is left of a list of clauses: all the literals, one after another, each clause behind its length.
+fn left(cs: &[Vec<u32>], rattle: bool) -> Vec<u32> {
+    let mut out = Vec::new();
+    if !rattle {
+        let cs = cs.iter().map(|c| LitOrdVec::new(lits(c))).collect();
+        for c in source_lemmas(cs) {
+            out.push(c.cube.len() as u32);
+            out.extend(c.cube.iter().map(|l| l.0));
+        }
+        return out;
+    }
+    let n = cs.len();
+    let mut lengths: Vec<u32> = cs.iter().map(|c| c.len() as u32).collect();
+    let mut literals = vec![0u32; 32 * n];
+    for (k, c) in cs.iter().enumerate() {
+        literals[32 * k..][..c.len()].copy_from_slice(c);
+    }
+    let (mut order, mut entries, mut places) = (vec![0u32; n], vec![0u32; n], vec![0u32; n]);
+    let r = unsafe {
+        rattle_lemmas(
+            lengths.as_mut_ptr(),
+            n,
+            literals.as_mut_ptr(),
+            32 * n,
+            order.as_mut_ptr(),
+            n,
+            entries.as_mut_ptr(),
+            n,
+            places.as_mut_ptr(),
+            n,
+            n as u32,
+        )
+    };
+    for &k in &order[..r] {
+        let len = lengths[k as usize];
+        out.push(len);
+        out.extend(&literals[32 * k as usize..][..len as usize]);
+    }
+    out
 }
 
 fn main() {
@@ -264,6 +324,15 @@ fn main() {
             } else {
                 source_may_subsume(sa, sb)
             } as u64),
+            "lemmas" => {
+                // a list of two to forty clauses, in pairs as above
+                let mut cs = vec![a.clone(), b.clone()];
+                for _ in 0..g.below(20) {
+                    let (a, b) = pair(&mut g);
+                    cs.extend([a, b]);
+                }
+                left(&cs, rattle).into_iter().for_each(|w| add(w as u64));
+            }
             "may_fit" => {
                 // the two tests differ: their answers are not compared
                 black_box(if rattle {

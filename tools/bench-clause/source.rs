@@ -203,3 +203,78 @@ pub fn may_fit(a: u128, b: u128) -> bool {
     let ss = var_sign(a);
     ss & var_sign(b) == ss
 }
+
+// A clause with its signature.
+#[derive(Clone)]
+pub struct LitOrdVec {
+    pub cube: LitVec,
+    sign: u128,
+}
+
+impl Default for LitOrdVec {
+    fn default() -> Self {
+        LitOrdVec {
+            cube: LitVec { lits: Vec::new() },
+            sign: 0,
+        }
+    }
+}
+
+impl LitOrdVec {
+    #[inline]
+    pub fn new(cube: LitVec) -> Self {
+        let sign = cube.sign();
+        LitOrdVec { cube, sign }
+    }
+
+    #[inline]
+    pub fn subsume_execpt_one(&self, other: &LitOrdVec) -> (bool, Option<Lit>) {
+        if self.cube.len() > other.cube.len() {
+            return (false, None);
+        }
+        let ss = var_sign(self.sign);
+        if ss & var_sign(other.sign) != ss {
+            return (false, None);
+        }
+        self.cube.ordered_subsume_execpt_one(&other.cube)
+    }
+}
+
+pub fn lemmas_subsume_simplify(mut lemmas: Vec<LitOrdVec>) -> Vec<LitOrdVec> {
+    lemmas.sort_by_key(|l| l.cube.len());
+    let mut i = 0;
+    while i < lemmas.len() {
+        if lemmas[i].cube.is_empty() {
+            i += 1;
+            continue;
+        }
+        let mut update = false;
+        for j in i + 1..lemmas.len() {
+            if lemmas[j].cube.is_empty() {
+                continue;
+            }
+            let (res, diff) = lemmas[i].subsume_execpt_one(&lemmas[j]);
+            if res {
+                lemmas[j] = Default::default();
+                continue;
+            } else if let Some(diff) = diff {
+                if lemmas[i].cube.len() == lemmas[j].cube.len() {
+                    update = true;
+                    let mut cube = lemmas[i].cube.clone();
+                    cube.drop_literal(diff);
+                    lemmas[i] = LitOrdVec::new(cube);
+                    lemmas[j] = Default::default();
+                } else {
+                    let mut cube = lemmas[j].cube.clone();
+                    cube.drop_literal(!diff);
+                    lemmas[j] = LitOrdVec::new(cube);
+                }
+            }
+        }
+        if !update {
+            i += 1;
+        }
+    }
+    lemmas.retain(|l| !l.cube.is_empty());
+    lemmas
+}
