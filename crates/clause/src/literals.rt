@@ -59,7 +59,8 @@ impl Lit {
         self.word % 2 == 0
     }
 
-    // The literal of the same node with the other sign. The source's operators on literals and values are named functions here.
+    // The literal of the same node with the other sign. The source's operators on literals and values are named functions
+    // here (docs/DIFFERENCES.md).
     pub fn opposite(self) -> Lit
         ensures { result.word ≡ opposite self.word }
     {

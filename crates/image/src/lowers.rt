@@ -42,7 +42,7 @@ impl Lower {
         Ok(())
     }
 
-    // Notes the nodes that a clause of `owner` names.
+    // Notes the nodes that a clause of `owner` names, each the half of a literal: this crate does not rest on `clause`.
     fn note_clause(&mut self, clause: &[u32], owner: u32) -> Result<(), Fault>
         ensures { elim result [ Ok _ ↦ self.new.0.items ≡ noted_in owner self.old.0.items clause.now | Err f ↦ (f ≡ fault 5 owner) × (8 < length (noted_in owner self.old.0.items clause.now)) ] }
     {

@@ -13,7 +13,7 @@ pub trait ClauseTest {
         ensures { result ≡ pass self.now clause.now };
 }
 
-// The nodes that a clause names rise strictly.
+// The nodes that a clause names rise strictly. A literal's node is its half: this crate does not rest on `clause`.
 #[derive(Clone, Copy)]
 pub struct InOrder;
 
@@ -39,7 +39,7 @@ impl ClauseTest for OwnedBy {
     }
 }
 
-// The node of a clause's last literal; 0 for the empty clause, as the definition `owner` has it.
+// The node of a clause's last literal, its half; 0 for the empty clause, as the definition `owner` has it.
 pub fn owner_of(clause: &[u32]) -> u32
     ensures { result ≡ owner clause.now }
 {

@@ -28,6 +28,7 @@ fn check_nodes(words: &[u32], top: u32) -> Result<usize, Fault>
     requires all { top ≡ slice_index words.now 0 }
     ensures { result ≡ nodes_answer words.now top }
 {
+    // A `for` with `?`, which ends at the first fault; a `try_fold` would say no more.
     let mut count = 0;
     for node in 1..=top {
         count += check_node(run_of(words, node))?;

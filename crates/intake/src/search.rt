@@ -7,7 +7,7 @@ use crate::whole::WholeRun;
 use image::fault::{Fault, Refusal};
 
 // Whether a row of the lower nodes allows the node of a run both values, unless one allows none: the search ends at the first
-// such row. Nested loops, left by a label there (docs/DECISIONS.md, 8).
+// such row. Nested loops, left by a label there, with `clash` to say so after them (docs/DECISIONS.md, 8).
 pub(crate) fn search_rows(run: WholeRun<'_>, low: &[u32]) -> Result<bool, Fault>
     requires few { length low.now ≤ 8 }
     ensures { result ≡ searched low.now run.entry.run.node (clauses run.entry.run.words.now) }

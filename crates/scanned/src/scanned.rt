@@ -38,7 +38,7 @@ impl<'a> Scanned<'a> {
         check_words(Self::EACH, Self::FIXED, room, words)
     }
 
-    // A store in these words. Where it cannot be made, it has no room.
+    // A store in these words. Making a store refuses nothing (docs/RULES.md), so where the check would refuse, it has no room.
     pub fn new(words: &'a mut [u32], room: u32) -> Self
         ensures { means result ≡ blank (if fitting room (length words.old) then room else 0) }
     {

@@ -8,7 +8,7 @@ use rings::{after, link, scatter, shift, unlink};
 // How many literals there are: the heads below are those of their own lists.
 pub(crate) const LITERALS: u32 = 2048;
 
-// The head of the free slots.
+// The head of the free slots. This and the heads below are numbers and no enum: `rings` takes every node by its number.
 pub(crate) const FREE: u32 = 2048;
 
 // The head of the slots of retired clauses.
