@@ -12,6 +12,7 @@ use Rattle.lemmas.specs.declared.words.Meeting.{Meeting}
 use Rattle.lemmas.specs.declared.words.Meeting.TheVariants.{Stays, Goes, Joins}
 use Rattle.lemmas.specs.Turns.{after, Meets}
 use Rattle.lemmas.specs.Lines.{Lined, At, From, Turned, Ran}
+use Rattle.lemmas.specs.Marks.{Numbered}
 use Rattle.lemmas.proofs.Writes.{wrote_none, wrote_trans, wrote_weaker, wrote_other, get_or_from_take, get_or_from_drop}
 use Rattle.lemmas.proofs.Fewer.{Short, swept_short, full, full_none, full_step, behind, swept_none, swept_more, noted, one_stays, one_joins, all_met}
 
@@ -110,6 +111,10 @@ module _ {at n : ℕ} {C₀ : Clauses} {O₀ : List ℕ} (in' : at < n) (lined :
 
       pub later_stands : Stands C (get_or O j 0)
       later_stands = subst (Stands C) (sym later_is) (s.wrote.standing (get_or O₀ j 0) (lined.stands j jn))
+
+      -- its number is below what each of the line is below
+      pub later_below : {m : ℕ} → Numbered O₀ n m → get_or O j 0 < m
+      later_below {m} b = subst (λ k. k < m) (sym later_is) (b j jn)
 
       pub pair_apart : get_or O₀ at 0 ≡ get_or O j 0 → ⊥
       pair_apart e = let z = lined.once at j in' jn (e ∙ later_is) in omega (arith, s.low, s.high)

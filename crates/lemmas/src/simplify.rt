@@ -60,6 +60,9 @@ impl Lemmas<'_> {
             literals: &mut *self.literals,
         };
         sort(&clauses, count, self.order, self.entries, self.places);
-        Some(clauses.run(self.order, count as usize))
+        // The order is made, so its working words are free: one of each clause takes its mark.
+        let marks = &mut self.entries[..count as usize];
+        clauses.sign(marks, count);
+        Some(clauses.run(self.order, marks, count as usize))
     }
 }

@@ -1,8 +1,9 @@
 // Clauses in words, and what one makes of another.
+ghost use Rattle.lemmas.specs.Marks.{mark, Marked};
 ghost use Rattle.lemmas.specs.Turns.{Meets};
 ghost use Rattle.lemmas.specs.Words.{lemma_at, Stands, Wrote};
 ghost use Rattle.network.specs.Clauses.{without};
-ghost use Rattle.std.specs.Prelude.{◌≡◌, ◌⊎◌, ◌≢◌};
+ghost use Rattle.std.specs.Prelude.{◌≡◌, ◌<◌, ◌⊎◌, ◌≢◌, ℕ, length};
 
 use clause::{Lit, drop_literal, ordered_subsume_execpt_one};
 
@@ -25,6 +26,17 @@ pub(crate) enum Meeting {
     Goes,
     // Both became one: the first lost a literal, and the later one goes.
     Joins,
+}
+
+// The mark of a clause: a word to which each literal adds the bit of its node modulo 32.
+fn mark_of(clause: &[u32]) -> u32
+    ensures { result ≡ mark clause.now }
+{
+    let mut mark: u32 = 0;
+    for l in clause {
+        mark |= 1 << (*l / 2 % 32);
+    }
+    mark
 }
 
 // Each requires that its own clause stands, and the type cannot say so of all: other lent words may hold a clause that is too long.
@@ -51,14 +63,34 @@ impl Clauses<'_> {
         self.lengths[number as usize] = left as u32;
     }
 
+    // Writes the marks of the first `count` clauses.
+    pub(crate) fn sign(&self, marks: &mut [u32], count: u32)
+        requires room { length marks.old ≡ count }
+        requires stand { (k : ℕ) → k < count → Stands self.now k }
+        ensures { Marked self.now marks.new }
+    {
+        for k in 0..count {
+            marks[k as usize] = mark_of(self.literals_of(k));
+        }
+    }
+
     // One clause meets a later one: the later one goes or loses a literal, or both become one, or nothing happens.
-    pub(crate) fn meet(&mut self, first: u32, later: u32) -> Meeting
+    // Where the first has a node whose bit the later one's mark lacks, nothing happens, and neither is read.
+    pub(crate) fn meet(&mut self, marks: &mut [u32], first: u32, later: u32) -> Meeting
         requires first { Stands self.old first }
         requires later { Stands self.old later }
         requires apart { first ≢ later }
+        requires first_in { first < length marks.old }
+        requires later_in { later < length marks.old }
+        requires marked { Marked self.old marks.old }
         ensures wrote { Wrote (λ k. (k ≡ first) ⊎ (k ≡ later)) self.old self.new }
         ensures met { Meets self.old self.new first later result }
+        ensures marked { Marked self.new marks.new }
     {
+        let mark = marks[first as usize];
+        if mark & marks[later as usize] != mark {
+            return Meeting::Stays;
+        }
         let (part, differs) = ordered_subsume_execpt_one(
             self.literals_of(first),
             self.literals_of(later),
@@ -71,9 +103,11 @@ impl Clauses<'_> {
         };
         if self.lengths[first as usize] == self.lengths[later as usize] {
             self.lose(first, literal);
+            marks[first as usize] = mark_of(self.literals_of(first));
             return Meeting::Joins;
         }
         self.lose(later, literal.opposite());
+        marks[later as usize] = mark_of(self.literals_of(later));
         Meeting::Stays
     }
 }

@@ -1,0 +1,21 @@
+-- The marks of clauses: a word each, in which a clause has a bit for each of its nodes. Assumes nothing.
+use Rattle.std.specs.Prelude.{◌≡◌, ℕ, ◌%◌, ◌^◌, ◌<◌, List, length, fold, bit_or, slice_index}
+use Rattle.network.specs.Assignments.{node}
+use Rattle.lemmas.specs.Words.{lemma_at, Stands}
+use Rattle.lemmas.specs.declared.words.Clauses.{Clauses}
+
+-- the word n with the bit of a literal's node
+abbrev pub noding : ℕ → ℕ → ℕ
+noding n l = bit_or n (2 ^ (node l % 32))
+
+-- the mark of a clause: each literal adds the bit of its node
+abbrev pub mark : List ℕ → ℕ
+mark C = fold noding 0 C
+
+-- each clause that stands and has a word for it has its mark there
+abbrev pub Marked : Clauses → List ℕ → Type 0
+Marked C S = (k : ℕ) → k < length S → Stands C k → slice_index S k ≡ mark (lemma_at C k)
+
+-- the first n numbers of the line O are below m
+abbrev pub Numbered : List ℕ → ℕ → ℕ → Type 0
+Numbered O n m = (p : ℕ) → p < n → slice_index O p < m
