@@ -1,11 +1,11 @@
 -- Where a clause has a node that another's mark lacks, it does not fit the other; and the marks that stand. Assumes nothing.
-use Rattle.std.proofs.Common.{◌≡◌, ℕ, ◌+◌, ◌%◌, ◌/◌, ◌^◌, ◌<◌, ◌≤◌, max, Bool, true, false, cond, ◌||◌, eqb, ltb, List, [], ◌∷◌, ◌++◌, length, get_or, take, drop, set, Some, None, Option, sym, refl, ap, ◌∙◌, subst, inl, inr, ⊎_elim, arith, length-append, length-set, fold}
+use Rattle.std.proofs.Common.{◌≡◌, ℕ, ◌+◌, ◌%◌, ◌^◌, ◌<◌, ◌≤◌, max, Bool, true, false, cond, ◌||◌, eqb, ltb, List, [], ◌∷◌, ◌++◌, length, get_or, take, drop, set, Some, None, Option, sym, refl, ap, ◌∙◌, subst, inl, inr, ⊎_elim, arith, length-append, length-set, fold}
 use Rattle.std.specs.List.{list_any}
 use native.Mathlib.Nat.{div-eq_of_lt}
-use lib.Bits.{bit_and, bit_or}
-use Rattle.std.proofs.lemmas.Nat.{pow_pos, one_shl}
+use lib.Bits.{bit_and}
+use Rattle.std.proofs.lemmas.Nat.{pow_pos}
 use Rattle.std.proofs.lemmas.List.{length-take-le, length-drop, get_or-set_same, get_or-set_other}
-use Rattle.std.proofs.lemmas.Bool.{both_ways, cond_both, cases_eq, eqb-true, eq-eqb}
+use Rattle.std.proofs.lemmas.Bool.{both_ways, cond_both, cases_eq, eqb-true}
 use Rattle.network.specs.Assignments.{node}
 use Rattle.network.specs.Lists.{In}
 use Rattle.network.specs.Lemmas.{met}
@@ -115,9 +115,6 @@ marked_more C S n m h is old k hk =
 pub numbered_from : (O O₁ : List ℕ) (n m b : ℕ) → From O n O₁ m → Numbered O n b → Numbered O₁ m b
 numbered_from O O₁ n m b f h p hp = let (q, qn, e) = f p hp in subst (λ k. k < b) (sym e) (h q qn)
 
--- the marks are the first n words of their slice
-pub marks_long : (S : List ℕ) (n : ℕ) → n ≤ length S → length (take n S) ≡ n
-marks_long S n h = length-take-le n S h
-
+-- a slice is as long as before with its first n words written back
 pub marks_within : (S M : List ℕ) (n : ℕ) → n ≤ length S → length M ≡ length (take n S) → length (M ++ drop n S) ≡ length S
 marks_within S M n h e = length-append M (drop n S) ∙ omega (arith, e, length-take-le n S h, length-drop n S)

@@ -1,4 +1,4 @@
--- The marks of clauses: a word each, in which a clause has a bit for each of its nodes. Assumes nothing.
+-- The marks of clauses: a word each, with the bit of each node of the clause, by its number modulo 32. Assumes nothing.
 use Rattle.std.specs.Prelude.{◌≡◌, ℕ, ◌%◌, ◌^◌, ◌<◌, List, length, fold, bit_or, slice_index}
 use Rattle.network.specs.Assignments.{node}
 use Rattle.lemmas.specs.Words.{lemma_at, Stands}

@@ -69,13 +69,14 @@ impl Clauses<'_> {
         requires stand { (k : ℕ) → k < count → Stands self.now k }
         ensures { Marked self.now marks.new }
     {
+        // Each k is the number of a clause and the place of its mark.
         for k in 0..count {
             marks[k as usize] = mark_of(self.literals_of(k));
         }
     }
 
     // One clause meets a later one: the later one goes or loses a literal, or both become one, or nothing happens.
-    // Where the first has a node whose bit the later one's mark lacks, nothing happens, and neither is read.
+    // Where the first has a node whose bit is missing in the later one's mark, nothing happens, and neither clause is read.
     pub(crate) fn meet(&mut self, marks: &mut [u32], first: u32, later: u32) -> Meeting
         requires first { Stands self.old first }
         requires later { Stands self.old later }

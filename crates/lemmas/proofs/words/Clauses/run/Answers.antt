@@ -7,9 +7,6 @@ use Rattle.lemmas.proofs.words.Clauses.run.Goals as goal
 pub sweep-turn-requires-clause-numbered : goal.sweep-turn-requires-clause-numbered
 sweep-turn-requires-clause-numbered c p h = let k = numbered_from _ _ _ _ _ c.loop-at.invariant.run.from c.requires.numbered p h in omega (arith, c.loop-at.auto.marks)
 
-pub sweep-turn-requires-clause-marked : goal.sweep-turn-requires-clause-marked
-sweep-turn-requires-clause-marked c = c.loop-at.invariant.marked
-
 pub loop-at-preserved-then-not-turn : goal.loop-at-preserved-then-not-turn
 loop-at-preserved-then-not-turn c = record { run = run_on c.loop-at.invariant.run (omega arith) c.sweep-turn.ensures.turned (not-true _ c.if-not-turn.true); marked = c.sweep-turn.ensures.marked }
 

@@ -15,9 +15,6 @@ meet-requires-clause-apart c = pair_apart c.requires.within c.requires.lined c.l
 pub meet-requires-clause-later_in : goal.meet-requires-clause-later_in
 meet-requires-clause-later_in c = let h = later_below c.requires.within c.requires.lined c.loop-j.invariant.turn (omega arith) c.requires.numbered in omega (arith, c.loop-j.auto.marks)
 
-pub meet-requires-clause-marked : goal.meet-requires-clause-marked
-meet-requires-clause-marked c = c.loop-j.invariant.marked
-
 pub loop-j-preserved : goal.loop-j-preserved
 loop-j-preserved c =
     let s = c.loop-j.invariant.turn in
@@ -30,6 +27,3 @@ loop-j-preserved c =
 
 pub returns-clause-turned : goal.returns-clause-turned
 returns-clause-turned c = sweep_end c.requires.within c.requires.lined c.loop-j.invariant.turn (omega arith) (omega arith)
-
-pub returns-clause-marked : goal.returns-clause-marked
-returns-clause-marked c = c.loop-j.invariant.marked
