@@ -1,11 +1,11 @@
 use Rattle.std.proofs.Common.{◌≤◌, length, rules, arith, refl, ◌∙◌}
 use Rattle.std.proofs.lemmas.List.{length-take-le}
-use Rattle.lemmas.proofs.Sorts.{sorted_lined, lined_alike, stands_alike, stand, sorted_below, simplified_all}
+use Rattle.lemmas.proofs.Sorts.{sorted_lined, lined_alike, stands_alike, admitted_stands, sorted_below, simplified_all}
 use Rattle.lemmas.proofs.Marks.{marks_within}
 use Rattle.lemmas.proofs.simplify.Lemmas.lemmas_subsume_simplify.Goals as goal
 
 pub sign-requires-clause-stand : goal.sign-requires-clause-stand
-sign-requires-clause-stand c k h = stands_alike _ _ refl refl (stand (c.admits.ensures.0 c.if-not-admits.false) c.sort.ensures c.sort.auto.order k h)
+sign-requires-clause-stand c k h = stands_alike _ _ refl refl (admitted_stands (c.admits.ensures.0 c.if-not-admits.false) k h)
 
 pub run-requires-clause-lined : goal.run-requires-clause-lined
 run-requires-clause-lined c = lined_alike _ _ refl refl (sorted_lined (c.admits.ensures.0 c.if-not-admits.false) c.sort.ensures c.sort.auto.order)
