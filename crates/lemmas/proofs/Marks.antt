@@ -1,5 +1,5 @@
 -- Where a clause has a node that another's mark lacks, it does not fit the other; and the marks that stand. Assumes nothing.
-use Rattle.std.proofs.Common.{◌≡◌, ℕ, ◌+◌, ◌%◌, ◌^◌, ◌<◌, ◌≤◌, max, Bool, true, false, cond, ◌||◌, eqb, ltb, List, [], ◌∷◌, ◌++◌, length, get_or, take, drop, set, Some, None, Option, sym, refl, ap, ◌∙◌, subst, inl, inr, ⊎_elim, arith, length-append, length-set, fold}
+use Rattle.std.proofs.Common.{◌≡◌, ℕ, ◌%◌, ◌^◌, ◌<◌, ◌≤◌, max, Bool, true, false, cond, ◌||◌, eqb, ltb, List, [], ◌∷◌, ◌++◌, length, get_or, take, drop, set, Some, None, Option, sym, refl, ap, ◌∙◌, subst, inl, inr, ⊎_elim, arith, length-append, length-set, fold}
 use Rattle.std.specs.List.{list_any}
 use native.Mathlib.Nat.{div-eq_of_lt}
 use lib.Bits.{bit_and}
@@ -103,14 +103,6 @@ marked_anew {C} {C₁} {x} S m w old h is k hk s =
     let s₀ : Stands C k = record { counted = omega (arith, s.counted, w.lengths.1); room = omega (arith, s.room, w.literals.1); short = omega (arith, s.short, w.counts k ne) } in
     get_or-set_other S x k m 0 ne ∙ old k (omega (arith, length-set S x m, hk)) s₀ ∙ ap mark (sym (wrote_other w k s₀ ne)))
     (cases_eq k x)
-
--- one more clause has its mark
-pub marked_more : (C : Clauses) (S : List ℕ) (n m : ℕ) → n < length S → m ≡ mark (lemma_at C n) → ((k : ℕ) → k < n → get_or S k 0 ≡ mark (lemma_at C k)) → (k : ℕ) → k < n + 1 → get_or (set S n m) k 0 ≡ mark (lemma_at C k)
-marked_more C S n m h is old k hk =
-    ⊎_elim
-    (λ e. ap (λ i. get_or (set S n m) i 0) e ∙ get_or-set_same S n m 0 h ∙ is ∙ ap (λ i. mark (lemma_at C i)) (sym e))
-    (λ ne. get_or-set_other S n k m 0 ne ∙ old k (omega arith))
-    (cases_eq k n)
 
 pub numbered_from : (O O₁ : List ℕ) (n m b : ℕ) → From O n O₁ m → Numbered O n b → Numbered O₁ m b
 numbered_from O O₁ n m b f h p hp = let (q, qn, e) = f p hp in subst (λ k. k < b) (sym e) (h q qn)
