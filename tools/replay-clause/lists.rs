@@ -2,23 +2,8 @@
 use logicrs::*;
 use std::collections::BTreeMap;
 use std::io::Write;
-struct Rng(u64);
-impl Rng {
-    fn next(&mut self) -> u64 {
-        self.0 ^= self.0 << 13;
-        self.0 ^= self.0 >> 7;
-        self.0 ^= self.0 << 17;
-        self.0.wrapping_mul(0x2545F4914F6CDD1D) >> 11
-    }
-    fn below(&mut self, n: u64) -> u64 {
-        self.next() % n
-    }
-}
-fn lv(c: &[u32]) -> LitVec {
-    c.iter()
-        .map(|&l| Lit::new(Var(l >> 1), l & 1 == 0))
-        .collect()
-}
+include!("random.in");
+
 fn text(cs: &[Vec<u32>]) -> String {
     let clauses: Vec<String> = cs
         .iter()
