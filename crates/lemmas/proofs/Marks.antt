@@ -19,7 +19,7 @@ use Rattle.lemmas.specs.declared.words.Meeting.TheVariants.{Stays}
 use Rattle.lemmas.specs.Words.{lemma_at, Stands, Wrote}
 use Rattle.lemmas.specs.Turns.{Meets}
 use Rattle.lemmas.specs.Lines.{From}
-use Rattle.lemmas.specs.Marks.{noding, mark, Marked, Numbered}
+use Rattle.lemmas.specs.Marks.{noding, mark, Marked, Numbered, MarksSpare}
 use Rattle.lemmas.proofs.Writes.{wrote_other}
 
 -- ---- the nodes of a clause that fits
@@ -81,7 +81,7 @@ mark_below C D h j = go (list_any (has_bit j) C) refl
         omega arith
 
 -- a bit of C's is missing in D's, so C does not fit D
-pub mark_spares : (C D : List ℕ) → (bit_and (mark C) (mark D) ≡ mark C → ⊥) → fits C D ≡ (false, None)
+pub mark_spares : MarksSpare
 unfolding fits
 mark_spares C D h = refused (fits_but_one C D) (λ e. h (and_from_bits (mark C) (mark D) (mark_below C D (fits_names D C None e))))
 

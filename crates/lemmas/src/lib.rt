@@ -14,3 +14,4 @@ mod turns;
 mod words;
 
 pub use simplify::Lemmas;
+pub use words::marks_spare;

@@ -1,5 +1,5 @@
 // Clauses in words, and what one makes of another.
-ghost use Rattle.lemmas.specs.Marks.{mark, Marked};
+ghost use Rattle.lemmas.specs.Marks.{mark, Marked, MarksSpare};
 ghost use Rattle.lemmas.specs.Turns.{Meets};
 ghost use Rattle.lemmas.specs.Words.{lemma_at, Stands, Wrote};
 ghost use Rattle.network.specs.Clauses.{without};
@@ -38,6 +38,11 @@ fn mark_of(clause: &[u32]) -> u32
     }
     mark
 }
+
+// A mark that lacks a bit of another spares the walk through the two clauses.
+pub fn marks_spare()
+    ensures { MarksSpare }
+{}
 
 // Each requires that its own clause stands, and the type cannot say so of all: other lent words may hold a clause that is too long.
 impl Clauses<'_> {
