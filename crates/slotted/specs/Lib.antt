@@ -1,0 +1,7 @@
+pub mod Totals
+pub mod Layout
+pub mod Lists
+pub mod Effects
+pub mod Indexes
+pub mod Law
+pub mod Tied

@@ -1,0 +1,27 @@
+-- How own lists and an index go together. Assumes nothing.
+use Rattle.std.specs.Prelude.{◌≡◌, ℕ, Bool, true, false, ◌||◌, List, [], length, nat_lt}
+use Rattle.std.specs.List.{AllByRecursion, list_any}
+use Rattle.network.specs.Clauses.{has}
+use Rattle.rules.specs.Store.{Meaning, literals}
+use Rattle.slotted.specs.Lists.{own, lost, text, listed}
+use Rattle.slotted.specs.declared.owned.Owned.{Owned}
+use Rattle.slots.specs.Slots.{meant}
+use Rattle.slotted.specs.Indexes.{Listing}
+
+-- what own lists, the flag of an index and its uses mean
+abbrev pub meaning_of : Owned → Bool → (Listing → ℕ → List ℕ) → Meaning
+meaning_of o ix used = meant o.room ix (own o) (used (listed o)) (text o) (length (lost o))
+
+-- an own list has slot x, or it is lost
+abbrev pub is_kept : Owned → ℕ → Bool
+is_kept o x = list_any (λ l. has x (own o l)) literals || has x (lost o)
+
+-- the index goes with the own lists
+pub record Tied (o : Owned) (ix : Bool) (joined : ℕ → Bool) (used : Listing → ℕ → List ℕ) : Type 0 where
+  -- no free slot has joined
+  pub kept : (x : ℕ) → joined x ≡ true → is_kept o x ≡ true
+  -- while an index stands, each slot of an own list has joined if it is listed anywhere, and is used where it is listed
+  pub joins : ix ≡ true → (l : ℕ) → AllByRecursion (λ x. joined x ≡ nat_lt 0 (length (listed o x))) (own o l)
+  pub complete : ix ≡ true → (l k : ℕ) → AllByRecursion (λ x. has x (used (listed o) k) ≡ has k (listed o x)) (own o l)
+  -- without one, none has joined, and none is lost
+  pub off : ix ≡ false → ((x : ℕ) → joined x ≡ false) × (lost o ≡ [])
