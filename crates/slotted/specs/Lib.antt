@@ -5,3 +5,4 @@ pub mod Effects
 pub mod Indexes
 pub mod Law
 pub mod Tied
+pub mod Filled

@@ -33,6 +33,10 @@ pub trait Index {
     // The use stands at this place of this literal's uses.
     ghost usage: { Self → Listing → Self.Use → ℕ → ℕ → Type 0 };
 
+    // For how many slots it has room.
+    fn room(&self) -> u32
+        ensures { result ≡ slots self.now };
+
     // The handle of a slot.
     fn handle(x: u32) -> Self::Handle
         ensures { named result ≡ x };

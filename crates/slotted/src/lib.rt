@@ -5,7 +5,10 @@
 // Rests on `owned` (own lists), `slots` (the meaning by slots), `store` (the traits and the check) and `rules` (the meaning).
 #![tactic(auto)]
 
+pub mod as_lists;
+pub mod as_store;
 pub mod changes;
+mod fill;
 pub mod index;
 mod lists;
 pub mod owned;

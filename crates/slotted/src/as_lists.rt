@@ -1,0 +1,99 @@
+ghost use Rattle.std.specs.Prelude.{◌≡◌, ℕ, ◌+◌, ◌*◌, Bool, false, ◌&&◌, List, [], length, if◌then◌else◌, nat_lt, suc};
+ghost use Rattle.slotted.specs.Lists.{At};
+ghost use Rattle.slotted.specs.Tied.{meaning_of};
+
+use crate::index::Index;
+use crate::owned::Owned;
+use crate::slotted::Slotted;
+use store::lists::Lists;
+
+impl<I: Index> Lists for Slotted<'_, I> {
+    type Handle = I::Handle;
+
+    const EACH: u16 = I::EACH;
+
+    const FIXED: u16 = I::FIXED;
+
+    ghost meaning = { λ s. meaning_of s.own s.indexed (I.used s.index) };
+
+    ghost at = { λ s h l i. At s.own (I.named h) l i };
+
+    fn room(&self) -> u32 {
+        self.own.room()
+    }
+
+    fn indexed(&self) -> bool {
+        self.indexed
+    }
+
+    fn live(&self) -> u32 {
+        self.own.live()
+    }
+
+    fn own_len(&self, l: u32) -> u32 {
+        self.own.own_len(l)
+    }
+
+    fn first(&self, l: u32) -> Option<I::Handle> {
+        self.own.first(l).map(|x| I::handle(x))
+    }
+
+    fn next(&self, h: I::Handle) -> Option<I::Handle> {
+        Some(I::handle(self.own.next(I::named(h))?))
+    }
+
+    fn nth(&self, l: u32, i: u32) -> Option<I::Handle> {
+        Some(I::handle(self.own.nth(l, i)?))
+    }
+
+    fn place(&self, h: I::Handle) -> (u32, u32) {
+        self.own.standing(I::named(h)).unwrap_or((0, 0))
+    }
+
+    fn clause(&self, h: I::Handle) -> &[u32] {
+        self.own.text(I::named(h))
+    }
+
+    fn enter(&mut self, clause: &[u32]) -> bool {
+        let Slotted {
+            own,
+            index,
+            indexed,
+        } = self;
+        let Some(x) = own.admit(clause) else {
+            return false;
+        };
+        if let [front @ .., _] = clause {
+            if *indexed {
+                index.join(x, front);
+            }
+        }
+        true
+    }
+
+    fn index_off(&mut self) {
+        let Slotted {
+            own,
+            index,
+            indexed,
+        } = self;
+        index.clear();
+        own.free_lost();
+        *indexed = false;
+    }
+
+    fn empty(&mut self) {
+        let Slotted {
+            own,
+            index,
+            indexed,
+        } = self;
+        index.clear();
+        own.empty();
+        *indexed = false;
+    }
+
+    ghost lawful = { λ s. ? };
+
+    ghost small = { λ s. ? };
+}
