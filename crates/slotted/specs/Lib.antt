@@ -4,5 +4,6 @@ pub mod Lists
 pub mod Effects
 pub mod Indexes
 pub mod Law
+pub mod Facts
 pub mod Tied
 pub mod Filled

@@ -93,7 +93,9 @@ impl<I: Index> Lists for Slotted<'_, I> {
         *indexed = false;
     }
 
-    ghost lawful = { λ s. ? };
+    ghost use Rattle.slotted.specs.Facts.{law};
 
-    ghost small = { λ s. ? };
+    ghost lawful = { λ s. law (meaning_of s.own s.indexed (I.used s.index)) s.law };
+
+    ghost small = { λ s. s.own.small };
 }

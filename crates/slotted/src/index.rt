@@ -82,6 +82,9 @@ pub trait Index {
     // What makes that an index.
     ghost sensible: { (s : Self) → Sensible (joined s) (used s) };
 
+    // A use stands at a place that is there.
+    ghost within: { (s : Self) (L : Listing) (u : Self.Use) (k j : ℕ) → usage s L u k j → j < length (used s L k) };
+
     // A use stands where it stood if slots are listed alike.
     ghost stays: { (s : Self) (L M : Listing) → Alike (joined s) L M → (u : Self.Use) (k j : ℕ) → usage s L u k j → usage s M u k j };
 }
