@@ -4,3 +4,7 @@ pub mod Stands
 pub mod Asks
 pub mod Fronts
 pub mod Enters
+pub mod Offs
+pub mod Removes
+pub mod Retires
+pub mod Shortens

@@ -9,6 +9,8 @@ use Rattle.network.proofs.Lists.{any_from, any_some, has_in, in_kept, kept_in}
 use Rattle.rings.specs.Rings.{Lacks, Differ, Apart, drop_at}
 use Rattle.rings.proofs.Holes.{apart_from}
 use Rattle.rings.proofs.Drops.{drop_at_all, drop_at_out, without_at}
+use Rattle.rules.specs.Store.{literals}
+use Rattle.rules.proofs.Index.{in_up_to}
 use Rattle.slots.specs.Slots.{filled_by_last}
 use Rattle.slots.proofs.Slots.{member, swap_length, swap_at, swap_else}
 
@@ -89,11 +91,15 @@ module _ (i : ℕ) (xs : List ℕ) (h : i < length xs) where
 pub dropped_in : (i : ℕ) (xs : List ℕ) (x : ℕ) → In x (drop_at i xs) → In x xs
 dropped_in i xs x = all_in (λ y. In y xs) (drop_at i xs) x (drop_at_all (λ y. In y xs) i xs (in_all (λ y. In y xs) xs (λ y k. k)))
 
+in_without : (x z : ℕ) (xs : List ℕ) → In x xs → (x ≡ z → ⊥) → In x (without z xs)
+in_without x z xs k n = in_kept (λ l. not (eqb l z)) x xs k (ap not (ne_eqb x z n))
+
+-- the others stay
+pub has_without : (x z : ℕ) (xs : List ℕ) → (x ≡ z → ⊥) → has x (without z xs) ≡ has x xs
+has_without x z xs n = has_same x (without z xs) xs (λ h. (kept_in (λ l. not (eqb l z)) x xs h).0) (λ h. in_without x z xs h n)
+
 pub in_dropped : (i : ℕ) (xs : List ℕ) (x : ℕ) → i < length xs → Differ xs → In x xs → (x ≡ get_or xs i 0 → ⊥) → In x (drop_at i xs)
 in_dropped i xs x h d k n = subst (In x) (without_at i xs h d) (in_without x (get_or xs i 0) xs k n)
-  where
-    in_without : (x z : ℕ) (xs : List ℕ) → In x xs → (x ≡ z → ⊥) → In x (without z xs)
-    in_without x z xs k n = in_kept (λ l. not (eqb l z)) x xs k (ap not (ne_eqb x z n))
 
 pub dropped_out : (i : ℕ) (xs : List ℕ) → i < length xs → Differ xs → In (get_or xs i 0) (drop_at i xs) → ⊥
 dropped_out i xs h d = lacks_not (get_or xs i 0) (drop_at i xs) (drop_at_out i xs h d)
@@ -104,3 +110,12 @@ some_same [] [] e = refl
 some_same [] (y ∷ ys) e = absurd (both_ways (has y (y ∷ ys)) (sym (e y)) (in_has y (y ∷ ys) (inl refl)))
 some_same (x ∷ xs) [] e = absurd (both_ways (has x (x ∷ xs)) (e x) (in_has x (x ∷ xs) (inl refl)))
 some_same (x ∷ xs) (y ∷ ys) e = lt-ltb 0 (length (x ∷ xs)) (omega arith) ∙ sym (lt-ltb 0 (length (y ∷ ys)) (omega arith))
+
+-- a list of literals of the nodes up to 1,023 is not empty if one of those is in it
+pub any_low : (xs : List ℕ) → AllByRecursion (λ k. k < 2048) xs → list_any (λ k. has k xs) literals ≡ ltb 0 (length xs)
+any_low [] a = elim (cases_Bool (list_any (λ k. has k []) literals)) [ inl t ↦ absurd (has_in (any_some (λ k. has k []) literals t).0 [] (any_some (λ k. has k []) literals t).2) | inr f ↦ f ]
+any_low (x ∷ xs) a = any_from (λ k. has k (x ∷ xs)) literals x (in_up_to 2048 x a.0) (in_has x (x ∷ xs) (inl refl)) ∙ sym (lt-ltb 0 (length (x ∷ xs)) (omega arith))
+
+-- nothing is in empty lists
+pub any_nothing : (x : ℕ) (f : ℕ → List ℕ) (ls : List ℕ) → ((k : ℕ) → f k ≡ []) → list_any (λ k. has x (f k)) ls ≡ false
+any_nothing x f ls e = elim (cases_Bool (list_any (λ k. has x (f k)) ls)) [ inl t ↦ absurd (let k = any_some (λ k. has x (f k)) ls t in has_in x [] (sym (ap (has x) (e k.0)) ∙ k.2)) | inr n ↦ n ]

@@ -12,6 +12,10 @@ use Rattle.slotted.specs.Indexes.{Listing}
 abbrev pub meaning_of : Owned → Bool → (Listing → ℕ → List ℕ) → Meaning
 meaning_of o ix used = meant o.room ix (own o) (used (listed o)) (text o) (length (lost o))
 
+-- the meaning of a store of this room without a clause
+abbrev pub blank : ℕ → Meaning
+blank room = record { room = room; indexed = false; own = λ l. []; uses = λ k. []; dead_clauses = 0 }
+
 -- an own list has slot x, or it is lost
 abbrev pub is_kept : Owned → ℕ → Bool
 is_kept o x = list_any (λ l. has x (own o l)) literals || has x (lost o)

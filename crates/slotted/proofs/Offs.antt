@@ -1,0 +1,49 @@
+-- A store without an index, and one without a clause. Assumes nothing.
+use Rattle.std.proofs.Common.{◌≡◌, ℕ, ◌≤◌, Bool, true, false, List, [], map, length, sym, refl, ap, ◌∙◌, subst, arith}
+use Rattle.std.proofs.lemmas.Bool.{both_ways}
+use Rattle.rules.specs.Store.{emptied, index_off}
+use Rattle.rules.specs.Lawful.{Lawful}
+use Rattle.rules.proofs.Lawful.{emptied_lawful, index_off_lawful}
+use Rattle.slots.specs.Slots.{meant, ref}
+use Rattle.slots.proofs.Slots.{map_same, same_meaning}
+use Rattle.slotted.specs.declared.owned.Owned.{Owned}
+use Rattle.slotted.specs.Effects.{Emptied, Freed}
+use Rattle.slotted.specs.Indexes.{Listing}
+use Rattle.slotted.specs.Lists.{listed, lost, own, text}
+use Rattle.slotted.specs.Tied.{blank, meaning_of}
+use Rattle.slotted.proofs.Members.{in_all}
+use Rattle.slotted.proofs.Stands.{Facts, Ties, facts}
+
+-- no slot has joined, and none is lost
+module _ (t : Owned) (j' : ℕ → Bool) (u' : Listing → ℕ → List ℕ) (none : (y : ℕ) → j' y ≡ false) (gone : lost t ≡ []) (uses : (L : Listing) (k : ℕ) → u' L k ≡ []) where
+  off_ties : Ties t false j' u'
+  off_ties = record {
+    kept = λ y e. absurd (both_ways (j' y) (none y) e);
+    joins = λ on. absurd (both_ways false refl on);
+    complete = λ on. absurd (both_ways false refl on);
+    off = λ e. (none, gone);
+  }
+
+  no_uses : (k : ℕ) → map (ref (own t) (text t)) (u' (listed t) k) ≡ []
+  no_uses k = ap (map (ref (own t) (text t))) (uses (listed t) k)
+
+  -- no own list has a slot
+  module _ (room : ℕ) (same : t.room ≡ room) (owns : (l : ℕ) → own t l ≡ []) where
+    pub blank_meaning : meaning_of t false u' ≡ blank room
+    blank_meaning =
+        ap (λ (r : ℕ). meant r false (own t) (u' (listed t)) (text t) (length (lost t))) same
+        ∙ same_meaning room false _ _ _ _ _ 0 (λ l. ap (map (text t)) (owns l)) no_uses (ap length gone)
+
+    pub blank_facts : (slots : ℕ) → room ≤ slots → Facts t false slots j' u'
+    blank_facts slots f = facts t false slots j' u' (omega arith) off_ties (subst Lawful (sym blank_meaning) (emptied_lawful (blank room)))
+
+  -- the lost slots of s are free
+  module _ (s : Owned) (ix : Bool) (u : Listing → ℕ → List ℕ) (F : Freed s t) where
+    pub off_meaning : meaning_of t false u' ≡ index_off (meaning_of s ix u)
+    unfolding index_off
+    off_meaning =
+        ap (λ (r : ℕ). meant r false (own t) (u' (listed t)) (text t) (length (lost t))) F.room
+        ∙ same_meaning s.room false _ _ _ _ _ 0 (λ l. ap (map (text t)) (F.owns l) ∙ map_same (text t) (text s) (own s l) (in_all (λ y. text t y ≡ text s y) (own s l) (λ y h. F.same.texts y))) no_uses (ap length gone)
+
+    pub off_facts : Lawful (meaning_of s ix u) → (slots : ℕ) → s.room ≤ slots → Facts t false slots j' u'
+    off_facts L slots f = facts t false slots j' u' (let e = F.room in omega arith) off_ties (subst Lawful (sym off_meaning) (index_off_lawful (meaning_of s ix u) L))

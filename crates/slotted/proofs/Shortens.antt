@@ -1,0 +1,63 @@
+-- A clause in own lists that loses a literal; an index keeps its uses. Assumes nothing.
+use Rattle.std.proofs.Common.{◌≡◌, ℕ, ◌<◌, ◌≤◌, Bool, true, false, ltb, ◌⊎◌, List, [], length, get_or, sym, refl, ap, ◌∙◌, subst, inl, inr, arith}
+use mathlib.Core.Path.{fun_ext}
+use Rattle.std.specs.List.{AllByRecursion}
+use Rattle.network.specs.Lists.{In}
+use Rattle.network.specs.Clauses.{has, without}
+use Rattle.rings.proofs.Drops.{at_here, at_else}
+use Rattle.rules.specs.Store.{droppable, shortened}
+use Rattle.rules.specs.Lawful.{Lawful}
+use Rattle.rules.proofs.Lawful.{shortened_lawful}
+use Rattle.slots.specs.Slots.{meant}
+use Rattle.slots.proofs.Changes.{shortened_is}
+use Rattle.slotted.specs.declared.owned.Owned.{Owned}
+use Rattle.slotted.specs.Effects.{Shortened}
+use Rattle.slotted.specs.Indexes.{Alike, Listing, Sensible}
+use Rattle.slotted.specs.Lists.{At, listed, lost, own, text}
+use Rattle.slotted.specs.Tied.{meaning_of}
+use Rattle.slotted.proofs.Members.{in_all, some_same}
+use Rattle.slotted.proofs.OwnedLaws.{owned_kept}
+use Rattle.slotted.proofs.Stands.{Facts, HasSlot, Ties, at_own, facts, own_ends}
+
+module _ (s t : Owned) (ix : Bool) (j : ℕ → Bool) (u : Listing → ℕ → List ℕ) (S : Sensible j u) (T : Ties s ix j u) (x v l i : ℕ) (a : At s x l i) (R : Shortened x v s t) where
+  pub shortened_alike : Alike j (listed s) (listed t)
+  shortened_alike y k e = sym (R.listings y k)
+
+  same_uses : (k : ℕ) → u (listed s) k ≡ u (listed t) k
+  same_uses = S.depends (listed s) (listed t) shortened_alike
+
+  own_old : (m y : ℕ) → In y (own t m) → In y (own s m)
+  own_old m y = subst (In y) (R.owns m)
+
+  ends : get_or (own s l) i 0 ≡ x → In x (own t l)
+  ends e = subst (In x) (sym (R.owns l)) (at_own s x l i a)
+
+  others : (ys : List ℕ) → AllByRecursion (λ y. (y ≡ get_or (own s l) i 0 → ⊥) → text t y ≡ text s y) ys
+  others ys = in_all (λ y. (y ≡ get_or (own s l) i 0 → ⊥) → text t y ≡ text s y) ys (λ y h n. R.texts y ∙ at_else (text s) x (without v (text s x)) y (λ q. n (q ∙ sym a.1)))
+
+  pub shortened_meaning : meaning_of t ix u ≡ shortened l i v (meaning_of s ix u)
+  shortened_meaning =
+      let owns : own t ≡ own s = fun_ext R.owns in
+      let used : u (listed t) ≡ u (listed s) = fun_ext (λ k. sym (same_uses k)) in
+      let z = get_or (own s l) i 0 in
+      ap (λ (r : ℕ). meant r ix (own t) (u (listed t)) (text t) (length (lost t))) R.room
+      ∙ ap (λ (f : ℕ → List ℕ). meant s.room ix f (u (listed t)) (text t) (length (lost t))) owns
+      ∙ ap (λ (f : ℕ → List ℕ). meant s.room ix (own s) f (text t) (length (lost t))) used
+      ∙ ap (λ (ys : List ℕ). meant s.room ix (own s) (u (listed s)) (text t) (length ys)) R.losts
+      ∙ shortened_is (own s) (text s) (owned_kept s) l i a.0 (text t) v (R.texts z ∙ at_here (text s) x (without v (text s x)) z a.1 ∙ ap (λ (w : ℕ). without v (text s w)) (sym a.1)) (own_ends t l z (subst (λ (w : ℕ). In w (own t l)) (sym a.1) (ends a.1)))
+      s.room ix (u (listed s)) (length (lost s)) (λ m. others (own s m)) (λ k. others (u (listed s) k))
+
+  slot_stays : (y : ℕ) → HasSlot s y → HasSlot t y
+  slot_stays y (inl k) = inl (k.0, subst (In y) (sym (R.owns k.0)) k.1)
+  slot_stays y (inr k) = inr (subst (In y) (sym R.losts) k)
+
+  shortened_ties : Ties t ix j u
+  shortened_ties = record {
+    kept = λ y e. slot_stays y (T.kept y e);
+    joins = λ on m y h. T.joins on m y (own_old m y h) ∙ some_same (listed s y) (listed t y) (λ k. sym (R.listings y k));
+    complete = λ on m k y h. ap (has y) (sym (same_uses k)) ∙ T.complete on m k y (own_old m y h) ∙ sym (R.listings y k);
+    off = λ e. ((T.off e).0, R.losts ∙ (T.off e).1);
+  }
+
+  pub shortened_facts : Lawful (meaning_of s ix u) → droppable (meaning_of s ix u) l i v ≡ true → (slots : ℕ) → s.room ≤ slots → Facts t ix slots j u
+  shortened_facts L ok slots f = facts t ix slots j u (let e = R.room in omega arith) shortened_ties (subst Lawful (sym shortened_meaning) (shortened_lawful l i v (meaning_of s ix u) L ok))
