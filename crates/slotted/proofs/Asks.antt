@@ -1,9 +1,10 @@
 -- What the questions of a store read. Assumes nothing.
-use Rattle.std.proofs.Common.{◌≡◌, ℕ, zero, suc, ◌+◌, ◌<◌, ◌≤◌, Bool, true, false, ◌&&◌, eqb, List, [], map, length, get_or, sym, refl, ap, ◌∙◌, subst, inl, inr, arith}
+use Rattle.std.proofs.Common.{◌≡◌, ℕ, zero, suc, ◌+◌, ◌<◌, ◌≤◌, Bool, true, false, ◌&&◌, eqb, ◌⊎◌, List, [], map, length, get_or, sym, refl, ap, ◌∙◌, subst, inl, inr, arith}
 use mathlib.Core.Path.{fun_ext}
 use Rattle.std.proofs.lemmas.Bool.{and_from, and_left, and_right, cases_eq, cases_lt, eq-eqb, ne_eqb}
 use Rattle.std.proofs.lemmas.List.{get_or-map, length-map}
 use Rattle.network.specs.Clauses.{last}
+use Rattle.network.specs.Lists.{In}
 use Rattle.rings.specs.Rings.{Apart}
 use Rattle.rings.proofs.Holes.{apart_from}
 use Rattle.rules.specs.Store.{Meaning, dead, from, live, live_clauses, sum_of}
@@ -15,6 +16,7 @@ use Rattle.slotted.specs.Lists.{own, text, At}
 use Rattle.slotted.specs.Tied.{meaning_of}
 use Rattle.slotted.specs.Totals.{total}
 use Rattle.slotted.specs.declared.owned.Owned.{Owned}
+use Rattle.slotted.proofs.Members.{lacks_not}
 use Rattle.slotted.proofs.OwnedLaws.{owned_kept}
 use Rattle.slotted.proofs.Stands.{at_own, own_ends}
 
@@ -57,6 +59,15 @@ module _ (o : Owned) (x l i : ℕ) (a : At o x l i) where
               | inr p ↦ and_left (eqb m l) (eqb j i) (ne_eqb m l p)
             ])
       ]
+
+-- a slot stands in an own list or in none
+pub stands_or : (o : Owned) (x : ℕ) → ((l : ℕ) × (i : ℕ) × At o x l i) ⊎ ((l i : ℕ) → At o x l i → ⊥)
+stands_or o x =
+    let l = last (text o x) in
+    elim (member x (own o l)) [
+      | inl p ↦ inl (l, p.0, (p.1, p.2))
+      | inr n ↦ inr (λ m i a. lacks_not x (own o l) n (subst (λ (k : ℕ). In x (own o k)) (sym (own_ends o m x (at_own o x m i a))) (at_own o x m i a)))
+    ]
 
 -- the use of a slot
 module _ (o : Owned) (us : List ℕ) (j x : ℕ) (h : j < length us) (e : get_or us j 0 ≡ x) where

@@ -1,9 +1,11 @@
 -- A clause in own lists that loses a literal; an index keeps its uses. Assumes nothing.
-use Rattle.std.proofs.Common.{◌≡◌, ℕ, ◌<◌, ◌≤◌, Bool, true, false, ltb, ◌⊎◌, List, [], length, get_or, sym, refl, ap, ◌∙◌, subst, inl, inr, arith}
+use Rattle.std.proofs.Common.{◌≡◌, ℕ, ◌<◌, ◌≤◌, Bool, true, false, ◌&&◌, ltb, ◌⊎◌, List, [], map, length, get_or, sym, refl, ap, ◌∙◌, subst, inl, inr, arith}
 use mathlib.Core.Path.{fun_ext}
 use Rattle.std.specs.List.{AllByRecursion}
+use Rattle.std.proofs.lemmas.Bool.{lt-ltb}
+use Rattle.std.proofs.lemmas.List.{get_or-map, length-map}
 use Rattle.network.specs.Lists.{In}
-use Rattle.network.specs.Clauses.{has, without}
+use Rattle.network.specs.Clauses.{front, has, without}
 use Rattle.rings.proofs.Drops.{at_here, at_else}
 use Rattle.rules.specs.Store.{droppable, shortened}
 use Rattle.rules.specs.Lawful.{Lawful}
@@ -18,6 +20,14 @@ use Rattle.slotted.specs.Tied.{meaning_of}
 use Rattle.slotted.proofs.Members.{in_all, some_same}
 use Rattle.slotted.proofs.OwnedLaws.{owned_kept}
 use Rattle.slotted.proofs.Stands.{Facts, HasSlot, Ties, at_own, facts, own_ends}
+
+-- which literals may be dropped
+pub droppable_is : (s : Owned) (ix : Bool) (u : Listing → ℕ → List ℕ) (x v l i : ℕ) → At s x l i → droppable (meaning_of s ix u) l i v ≡ has v (front (text s x))
+droppable_is s ix u x v l i a =
+    let p = a.0 in
+    let n = length-map (own s l) (text s) in
+    let e : get_or (map (text s) (own s l)) i [] ≡ text s x = get_or-map (text s) (own s l) i 0 [] a.0 ∙ ap (text s) a.1 in
+    ap (λ (b : Bool). b && has v (front (get_or (map (text s) (own s l)) i []))) (lt-ltb i (length (map (text s) (own s l))) (omega arith)) ∙ ap (λ (C : List ℕ). has v (front C)) e
 
 module _ (s t : Owned) (ix : Bool) (j : ℕ → Bool) (u : Listing → ℕ → List ℕ) (S : Sensible j u) (T : Ties s ix j u) (x v l i : ℕ) (a : At s x l i) (R : Shortened x v s t) where
   pub shortened_alike : Alike j (listed s) (listed t)

@@ -112,5 +112,9 @@ to_law M L = ∣ record {
 abbrev pub Facts : Owned → Bool → ℕ → (ℕ → Bool) → (Listing → ℕ → List ℕ) → Type 0
 Facts o ix slots joined used = record { fits : o.room ≤ slots; tied : ∥ Tied o ix joined used ∥₁; law : ∥ Law (meaning_of o ix used) ∥₁ }
 
+-- where own lists are as they were
+pub facts_stay : {o o' : Owned} {ix : Bool} {slots : ℕ} {joined : ℕ → Bool} {used : Listing → ℕ → List ℕ} → o' ≡ o → Facts o ix slots joined used → Facts o' ix slots joined used
+facts_stay {ix = ix} {slots} {joined} {used} e f = subst (λ o. Facts o ix slots joined used) (sym e) f
+
 pub facts : (o : Owned) (ix : Bool) (slots : ℕ) (joined : ℕ → Bool) (used : Listing → ℕ → List ℕ) → o.room ≤ slots → Ties o ix joined used → Lawful (meaning_of o ix used) → Facts o ix slots joined used
 facts o ix slots joined used f t L = record { fits = f; tied = to_tied t; law = to_law (meaning_of o ix used) L }
