@@ -1,23 +1,21 @@
 -- What the questions of a store read. Assumes nothing.
 use Rattle.std.proofs.Common.{◌≡◌, ℕ, zero, suc, ◌+◌, ◌<◌, ◌≤◌, Bool, true, false, ◌&&◌, eqb, ◌⊎◌, List, [], map, length, get_or, sym, refl, ap, ◌∙◌, subst, inl, inr, arith}
 use mathlib.Core.Path.{fun_ext}
-use Rattle.std.proofs.lemmas.Bool.{and_from, and_left, and_right, cases_eq, cases_lt, eq-eqb, ne_eqb}
+use Rattle.std.proofs.lemmas.Bool.{and_from, and_left, and_right, cases_eq, eq-eqb, ne_eqb}
 use Rattle.std.proofs.lemmas.List.{get_or-map, length-map}
 use Rattle.network.specs.Clauses.{last}
 use Rattle.network.specs.Lists.{In}
-use Rattle.rings.specs.Rings.{Apart}
-use Rattle.rings.proofs.Holes.{apart_from}
 use Rattle.rules.specs.Store.{Meaning, dead, from, live, live_clauses, sum_of}
 use Rattle.slots.specs.Slots.{ref}
 use Rattle.slots.proofs.Slots.{member, ref_at, seek_lacks}
 use Rattle.store.proofs.Walks.{walked_step}
 use Rattle.slotted.specs.Indexes.{Listing}
-use Rattle.slotted.specs.Lists.{own, text, At}
+use Rattle.owned.specs.Lists.{own, text, At}
 use Rattle.slotted.specs.Tied.{meaning_of}
-use Rattle.slotted.specs.Totals.{total}
-use Rattle.slotted.specs.declared.owned.Owned.{Owned}
+use Rattle.owned.specs.Totals.{total}
+use Rattle.owned.specs.declared.owned.Owned.{Owned}
 use Rattle.slotted.proofs.Members.{lacks_not}
-use Rattle.slotted.proofs.OwnedLaws.{owned_kept}
+use Rattle.owned.proofs.Laws.{own_laws}
 use Rattle.slotted.proofs.Stands.{at_own, own_ends}
 
 total_sum : (f : ℕ → ℕ) (n : ℕ) → total n f ≡ sum_of (map f (from 0 n))
@@ -34,25 +32,13 @@ live_is o ix used =
 
 -- a slot has one place, and a place one slot
 module _ (o : Owned) (x l i : ℕ) (a : At o x l i) where
-  pub one_list : (m j : ℕ) → At o x m j → l ≡ m
-  one_list m j b = sym (own_ends o l x (at_own o x l i a)) ∙ own_ends o m x (at_own o x m j b)
-
-  pub one_place : (j : ℕ) → At o x l j → i ≡ j
-  one_place j b =
-      let p : Apart (own o l) = apart_from (own o l) ((owned_kept o).differ l) in
-      elim (cases_eq i j) [
-        | inl e ↦ e
-        | inr n ↦ elim (cases_lt i j) [ inl lt ↦ absurd (p i j lt b.0 (a.1 ∙ sym b.1)) | inr ge ↦ absurd (p j i (omega arith) a.0 (b.1 ∙ sym a.1)) ]
-      ]
-
   pub same_slot : (y m j : ℕ) → At o y m j → eqb x y ≡ (eqb m l && eqb j i)
   same_slot y m j b =
       elim (cases_eq x y) [
         | inl e ↦
             let c : At o x m j = (b.0, b.1 ∙ sym e) in
-            let p = one_list m j c in
-            let q = one_place j (subst (λ (w : ℕ). At o x w j) (sym p) c) in
-            eq-eqb x y e ∙ sym (and_from (eqb m l) (eqb j i) (eq-eqb m l (sym p)) (eq-eqb j i (sym q)))
+            let p = (own_laws o).once x l i m j a c in
+            eq-eqb x y e ∙ sym (and_from (eqb m l) (eqb j i) (eq-eqb m l (sym p.0)) (eq-eqb j i (sym p.1)))
         | inr n ↦
             ne_eqb x y n ∙ sym (elim (cases_eq m l) [
               | inl p ↦ and_right (eqb m l) (eqb j i) (ne_eqb j i (λ q. n (sym a.1 ∙ ap (λ (w : ℕ). get_or (own o l) w 0) (sym q) ∙ ap (λ (w : ℕ). get_or (own o w) j 0) (sym p) ∙ b.1)))
@@ -78,4 +64,4 @@ module _ (o : Owned) (us : List ℕ) (j x : ℕ) (h : j < length us) (e : get_or
   use_dead n = use_ref ∙ (let l = last (text o x) in elim (member x (own o l)) [ inl p ↦ absurd (n l p.0 (p.1, p.2)) | inr q ↦ seek_lacks l x 0 (own o l) q ])
 
   pub use_live : (l i : ℕ) → At o x l i → get_or (map (ref (own o) (text o)) us) j dead ≡ live l i
-  use_live l i a = use_ref ∙ ap (ref (own o) (text o)) (sym a.1) ∙ ref_at (own o) (text o) l i (owned_kept o) a.0
+  use_live l i a = use_ref ∙ ap (ref (own o) (text o)) (sym a.1) ∙ ref_at (own o) (text o) l i (own_laws o).kept_so a.0

@@ -13,10 +13,10 @@ use Rattle.rules.specs.Lawful.{Lawful}
 use Rattle.rules.proofs.Lawful.{entered_lawful}
 use Rattle.slots.specs.Slots.{meant}
 use Rattle.slots.proofs.Slots.{entered_is}
-use Rattle.slotted.specs.declared.owned.Owned.{Owned}
-use Rattle.slotted.specs.Effects.{Admitted}
+use Rattle.owned.specs.declared.owned.Owned.{Owned}
+use Rattle.owned.specs.Effects.{Admitted}
 use Rattle.slotted.specs.Indexes.{Alike, Listing, MayJoin, Sensible}
-use Rattle.slotted.specs.Lists.{At, kept, listed, lost, own, text}
+use Rattle.owned.specs.Lists.{At, kept, listed, lost, own, text}
 use Rattle.slotted.specs.Tied.{meaning_of}
 use Rattle.slotted.proofs.Asks.{live_is}
 use Rattle.slotted.proofs.Fronts.{may_join}

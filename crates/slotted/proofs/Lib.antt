@@ -1,4 +1,3 @@
-pub mod OwnedLaws
 pub mod Members
 pub mod Stands
 pub mod Asks

@@ -6,10 +6,10 @@ use Rattle.rules.specs.Lawful.{Lawful}
 use Rattle.rules.proofs.Lawful.{emptied_lawful, index_off_lawful}
 use Rattle.slots.specs.Slots.{meant, ref}
 use Rattle.slots.proofs.Slots.{map_same, same_meaning}
-use Rattle.slotted.specs.declared.owned.Owned.{Owned}
-use Rattle.slotted.specs.Effects.{Emptied, Freed}
+use Rattle.owned.specs.declared.owned.Owned.{Owned}
+use Rattle.owned.specs.Effects.{Emptied, Freed}
 use Rattle.slotted.specs.Indexes.{Listing}
-use Rattle.slotted.specs.Lists.{listed, lost, own, text}
+use Rattle.owned.specs.Lists.{listed, lost, own, text}
 use Rattle.slotted.specs.Tied.{blank, meaning_of}
 use Rattle.slotted.proofs.Members.{in_all}
 use Rattle.slotted.proofs.Stands.{Facts, Ties, facts}

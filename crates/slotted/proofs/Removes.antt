@@ -11,14 +11,13 @@ use Rattle.rules.specs.Lawful.{Lawful}
 use Rattle.rules.proofs.Lawful.{removed_lawful}
 use Rattle.slots.specs.Slots.{filled_by_last, meant}
 use Rattle.slots.proofs.Slots.{removed_is}
-use Rattle.slotted.specs.declared.owned.Owned.{Owned}
-use Rattle.slotted.specs.Effects.{Released}
+use Rattle.owned.specs.declared.owned.Owned.{Owned}
+use Rattle.owned.specs.Effects.{Released}
 use Rattle.slotted.specs.Indexes.{Listing, Sensible}
-use Rattle.slotted.specs.Lists.{At, listed, lost, own, text}
+use Rattle.owned.specs.Lists.{At, listed, lost, own, text}
 use Rattle.slotted.specs.Tied.{meaning_of}
-use Rattle.slotted.proofs.Asks.{one_list}
 use Rattle.slotted.proofs.Members.{filled_in, filled_out, has_without, in_filled, place_of}
-use Rattle.slotted.proofs.OwnedLaws.{owned_kept}
+use Rattle.owned.proofs.Laws.{own_laws}
 use Rattle.slotted.proofs.Stands.{Facts, HasSlot, Ties, at_own, facts}
 
 module _ (s t : Owned) (ix : Bool) (j : ℕ → Bool) (u : Listing → ℕ → List ℕ) (S : Sensible j u) (T : Ties s ix j u) (x l i : ℕ) (a : At s x l i) (R : Released x l i s t)
@@ -35,7 +34,7 @@ module _ (s t : Owned) (ix : Bool) (j : ℕ → Bool) (u : Listing → ℕ → L
       ap (λ (r : ℕ). meant r ix (own t) (u' (listed t)) (text t) (length (lost t))) R.room
       ∙ ap (λ (f : ℕ → List ℕ). meant s.room ix (own t) (u' (listed t)) f (length (lost t))) texts
       ∙ ap (λ (ys : List ℕ). meant s.room ix (own t) (u' (listed t)) (text s) (length ys)) R.losts
-      ∙ removed_is (own s) (own t) (text s) (owned_kept s) l i a.0 R.owns s.room ix (u (listed s)) (u' (listed t)) (length (lost s)) (λ k. uses_old k ∙ ap (λ (z : ℕ). without z (u (listed s) k)) (sym a.1))
+      ∙ removed_is (own s) (own t) (text s) (own_laws s).kept_so l i a.0 R.owns s.room ix (u (listed s)) (u' (listed t)) (length (lost s)) (λ k. uses_old k ∙ ap (λ (z : ℕ). without z (u (listed s) k)) (sym a.1))
 
   -- the others of an own list
   own_old : (m y : ℕ) → In y (own t m) → In y (own s m) × (y ≡ x → ⊥)
@@ -43,10 +42,10 @@ module _ (s t : Owned) (ix : Bool) (j : ℕ → Bool) (u : Listing → ℕ → L
       elim (cases_eq m l) [
         | inl q ↦
             let k : In y (filled_by_last 0 i (own s l)) = subst (In y) (R.owns m ∙ at_here (own s) l (filled_by_last 0 i (own s l)) m q) h in
-            (subst (λ (n : ℕ). In y (own s n)) (sym q) (filled_in i (own s l) a.0 y k), λ e. filled_out i (own s l) a.0 ((owned_kept s).differ l) (subst (λ (z : ℕ). In z (filled_by_last 0 i (own s l))) (e ∙ sym a.1) k))
+            (subst (λ (n : ℕ). In y (own s n)) (sym q) (filled_in i (own s l) a.0 y k), λ e. filled_out i (own s l) a.0 ((own_laws s).kept_so.differ l) (subst (λ (z : ℕ). In z (filled_by_last 0 i (own s l))) (e ∙ sym a.1) k))
         | inr n ↦
             let k : In y (own s m) = subst (In y) (R.owns m ∙ at_else (own s) l (filled_by_last 0 i (own s l)) m n) h in
-            (k, λ e. let p = place_of y (own s m) k in n (sym (one_list s x l i a m p.0 (p.1, p.2 ∙ e))))
+            (k, λ e. let p = place_of y (own s m) k in n (sym ((own_laws s).once x l i m p.0 a (p.1, p.2 ∙ e)).0))
       ]
 
   own_new : (m y : ℕ) → (y ≡ x → ⊥) → In y (own s m) → In y (own t m)

@@ -15,13 +15,13 @@ use Rattle.rules.specs.Lawful.{Lawful}
 use Rattle.rules.proofs.Lawful.{retired_lawful}
 use Rattle.slots.specs.Slots.{meant}
 use Rattle.slots.proofs.Changes.{retired_is}
-use Rattle.slotted.specs.declared.owned.Owned.{Owned}
-use Rattle.slotted.specs.Effects.{Retired}
+use Rattle.owned.specs.declared.owned.Owned.{Owned}
+use Rattle.owned.specs.Effects.{Retired}
 use Rattle.slotted.specs.Indexes.{Alike, Listing, Sensible}
-use Rattle.slotted.specs.Lists.{At, listed, lost, own, text}
+use Rattle.owned.specs.Lists.{At, listed, lost, own, text}
 use Rattle.slotted.specs.Tied.{meaning_of}
 use Rattle.slotted.proofs.Members.{all_in, any_low, any_nothing, dropped_in, in_dropped}
-use Rattle.slotted.proofs.OwnedLaws.{owned_kept, owned_listed}
+use Rattle.owned.proofs.Laws.{own_laws}
 use Rattle.slotted.proofs.Stands.{Facts, HasSlot, Ties, at_own, facts}
 
 module _ (s t : Owned) (ix : Bool) (j : ℕ → Bool) (u : Listing → ℕ → List ℕ) (S : Sensible j u) (T : Ties s ix j u) (x l i : ℕ) (a : At s x l i) (b : Bool) (is : b ≡ (ix && ltb 0 (length (listed s x)))) (R : Retired b x l i s t) where
@@ -43,7 +43,7 @@ module _ (s t : Owned) (ix : Bool) (j : ℕ → Bool) (u : Listing → ℕ → L
       elim (cases_Bool ix) [
         | inl on ↦
             ap (λ (p : ℕ → Bool). list_any p literals) (fun_ext (λ k. T.complete on l k x here))
-            ∙ any_low (listed s x) (all_in _ (own s l) x (owned_listed s l) here)
+            ∙ any_low (listed s x) (all_in _ (own s l) x ((own_laws s).literals l) here)
             ∙ ap (λ (c : Bool). c && ltb 0 (length (listed s x))) (sym on) ∙ sym is
         | inr off ↦ any_nothing x (u (listed s)) literals (nothing off) ∙ sym (is ∙ ap (λ (c : Bool). c && ltb 0 (length (listed s x))) off)
       ]
@@ -72,7 +72,7 @@ module _ (s t : Owned) (ix : Bool) (j : ℕ → Bool) (u : Listing → ℕ → L
       ap (λ (r : ℕ). meant r ix (own t) (u (listed t)) (text t) (length (lost t))) R.room
       ∙ ap (λ (f : ℕ → List ℕ). meant s.room ix (own t) (u (listed t)) f (length (lost t))) texts
       ∙ ap (λ (f : ℕ → List ℕ). meant s.room ix (own t) f (text s) (length (lost t))) used
-      ∙ retired_is (own s) (text s) (owned_kept s) l i a.0 (own t) R.owns s.room ix (u (listed s)) (length (lost s)) (length (lost t)) losts
+      ∙ retired_is (own s) (text s) (own_laws s).kept_so l i a.0 (own t) R.owns s.room ix (u (listed s)) (length (lost s)) (length (lost t)) losts
 
   own_old : (m y : ℕ) → In y (own t m) → In y (own s m)
   own_old m y h =
@@ -84,7 +84,7 @@ module _ (s t : Owned) (ix : Bool) (j : ℕ → Bool) (u : Listing → ℕ → L
   own_new : (m y : ℕ) → (y ≡ x → ⊥) → In y (own s m) → In y (own t m)
   own_new m y n h =
       rw (R.owns m) (elim (cases_eq m l) [
-        | inl q ↦ rw (at_here (own s) l (drop_at i (own s l)) m q) (in_dropped i (own s l) y a.0 ((owned_kept s).differ l) (subst (λ (w : ℕ). In y (own s w)) q h) (λ e. n (e ∙ a.1)))
+        | inl q ↦ rw (at_here (own s) l (drop_at i (own s l)) m q) (in_dropped i (own s l) y a.0 ((own_laws s).kept_so.differ l) (subst (λ (w : ℕ). In y (own s w)) q h) (λ e. n (e ∙ a.1)))
         | inr ne ↦ rw (at_else (own s) l (drop_at i (own s l)) m ne) h
       ])
 

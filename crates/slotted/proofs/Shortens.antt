@@ -12,13 +12,13 @@ use Rattle.rules.specs.Lawful.{Lawful}
 use Rattle.rules.proofs.Lawful.{shortened_lawful}
 use Rattle.slots.specs.Slots.{meant}
 use Rattle.slots.proofs.Changes.{shortened_is}
-use Rattle.slotted.specs.declared.owned.Owned.{Owned}
-use Rattle.slotted.specs.Effects.{Shortened}
+use Rattle.owned.specs.declared.owned.Owned.{Owned}
+use Rattle.owned.specs.Effects.{Shortened}
 use Rattle.slotted.specs.Indexes.{Alike, Listing, Sensible}
-use Rattle.slotted.specs.Lists.{At, listed, lost, own, text}
+use Rattle.owned.specs.Lists.{At, listed, lost, own, text}
 use Rattle.slotted.specs.Tied.{meaning_of}
 use Rattle.slotted.proofs.Members.{in_all, some_same}
-use Rattle.slotted.proofs.OwnedLaws.{owned_kept}
+use Rattle.owned.proofs.Laws.{own_laws}
 use Rattle.slotted.proofs.Stands.{Facts, HasSlot, Ties, at_own, facts, own_ends}
 
 -- which literals may be dropped
@@ -54,7 +54,7 @@ module _ (s t : Owned) (ix : Bool) (j : ℕ → Bool) (u : Listing → ℕ → L
       ∙ ap (λ (f : ℕ → List ℕ). meant s.room ix f (u (listed t)) (text t) (length (lost t))) owns
       ∙ ap (λ (f : ℕ → List ℕ). meant s.room ix (own s) f (text t) (length (lost t))) used
       ∙ ap (λ (ys : List ℕ). meant s.room ix (own s) (u (listed s)) (text t) (length ys)) R.losts
-      ∙ shortened_is (own s) (text s) (owned_kept s) l i a.0 (text t) v (R.texts z ∙ at_here (text s) x (without v (text s x)) z a.1 ∙ ap (λ (w : ℕ). without v (text s w)) (sym a.1)) (own_ends t l z (subst (λ (w : ℕ). In w (own t l)) (sym a.1) (ends a.1)))
+      ∙ shortened_is (own s) (text s) (own_laws s).kept_so l i a.0 (text t) v (R.texts z ∙ at_here (text s) x (without v (text s x)) z a.1 ∙ ap (λ (w : ℕ). without v (text s w)) (sym a.1)) (own_ends t l z (subst (λ (w : ℕ). In w (own t l)) (sym a.1) (ends a.1)))
       s.room ix (u (listed s)) (length (lost s)) (λ m. others (own s m)) (λ k. others (u (listed s) k))
 
   slot_stays : (y : ℕ) → HasSlot s y → HasSlot t y

@@ -14,23 +14,23 @@ use Rattle.rules.specs.Lawful.{Lawful}
 use Rattle.rules.proofs.Formed.{formed_parts}
 use Rattle.rules.proofs.Index.{in_up_to}
 use Rattle.slots.specs.Slots.{Kept}
-use Rattle.slotted.specs.declared.owned.Owned.{Owned}
+use Rattle.owned.specs.declared.owned.Owned.{Owned}
 use Rattle.slotted.specs.Indexes.{Listing, Sensible}
 use Rattle.slotted.specs.Law.{Law}
-use Rattle.slotted.specs.Lists.{own, lost, text, listed, At}
+use Rattle.owned.specs.Lists.{own, lost, text, listed, At}
 use Rattle.slotted.specs.Tied.{Tied, is_kept, meaning_of}
 use Rattle.slotted.proofs.Members.{all_in, in_all, in_has, place_in, place_of}
-use Rattle.slotted.proofs.OwnedLaws.{owned_formed, owned_kept}
+use Rattle.owned.proofs.Laws.{own_laws}
 
 -- ## Own lists
 
 -- a slot of an own list has a well formed clause, which ends in the list's literal
 module _ (o : Owned) (l x : ℕ) (h : In x (own o l)) where
   pub own_formed : well_formed (text o x) ≡ true
-  own_formed = all_in (λ y. well_formed (text o y) ≡ true) (own o l) x (owned_formed o l) h
+  own_formed = all_in (λ y. well_formed (text o y) ≡ true) (own o l) x ((own_laws o).formed l) h
 
   pub own_ends : last (text o x) ≡ l
-  own_ends = all_in (λ y. last (text o y) ≡ l) (own o l) x ((owned_kept o).ends l) h
+  own_ends = all_in (λ y. last (text o y) ≡ l) (own o l) x ((own_laws o).kept_so.ends l) h
 
   pub own_low : l < 2048
   own_low = let a = (formed_parts (text o x) own_formed).small in let b = own_ends in omega arith

@@ -3,8 +3,8 @@ use Rattle.std.specs.Prelude.{◌≡◌, ℕ, ◌<◌, ◌≤◌, Bool, ◌&&◌
 use Rattle.std.specs.List.{AllByRecursion}
 use Rattle.network.specs.Clauses.{front, has}
 use Rattle.rules.specs.Store.{up_to}
-use Rattle.slotted.specs.Lists.{own, lost, text, listed}
-use Rattle.slotted.specs.declared.owned.Owned.{Owned}
+use Rattle.owned.specs.Lists.{own, lost, text, listed}
+use Rattle.owned.specs.declared.owned.Owned.{Owned}
 use Rattle.slotted.specs.Indexes.{Listing}
 
 -- the slots of the own lists of the literals below l

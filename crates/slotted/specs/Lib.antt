@@ -1,7 +1,3 @@
-pub mod Totals
-pub mod Layout
-pub mod Lists
-pub mod Effects
 pub mod Indexes
 pub mod Law
 pub mod Facts

@@ -3,8 +3,8 @@ use Rattle.std.specs.Prelude.{◌≡◌, ℕ, Bool, true, false, ◌||◌, List,
 use Rattle.std.specs.List.{AllByRecursion, list_any}
 use Rattle.network.specs.Clauses.{has}
 use Rattle.rules.specs.Store.{Meaning, literals}
-use Rattle.slotted.specs.Lists.{own, lost, text, listed}
-use Rattle.slotted.specs.declared.owned.Owned.{Owned}
+use Rattle.owned.specs.Lists.{own, lost, text, listed}
+use Rattle.owned.specs.declared.owned.Owned.{Owned}
 use Rattle.slots.specs.Slots.{meant}
 use Rattle.slotted.specs.Indexes.{Listing}
 

@@ -1,9 +1,9 @@
 ghost use Rattle.std.specs.Prelude.{◌≡◌, ℕ, ◌+◌, ◌*◌, Bool, false, ◌&&◌, List, [], length, if◌then◌else◌, nat_lt, suc};
-ghost use Rattle.slotted.specs.Lists.{At};
+ghost use Rattle.owned.specs.Lists.{At};
 ghost use Rattle.slotted.specs.Tied.{meaning_of};
 
 use crate::index::Index;
-use crate::owned::Owned;
+use owned::owned::Owned;
 use crate::slotted::Slotted;
 use store::lists::Lists;
 

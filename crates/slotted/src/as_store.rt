@@ -1,9 +1,9 @@
 ghost use Rattle.std.specs.Prelude.{◌≡◌, ℕ};
-ghost use Rattle.slotted.specs.Lists.{listed};
+ghost use Rattle.owned.specs.Lists.{listed};
 
 use crate::fill::fill;
 use crate::index::Index;
-use crate::owned::Owned;
+use owned::owned::Owned;
 use crate::slotted::Slotted;
 use store::lists::Lists;
 use store::store::Store;

@@ -2,8 +2,10 @@ ghost use Rattle.std.specs.Prelude.{◌≡◌, ℕ, ◌+◌, []};
 ghost use Rattle.slotted.specs.Filled.{Filled, SameLists, earlier};
 
 use crate::index::Index;
-use crate::owned::Owned;
-use crate::words::LITERALS;
+use owned::owned::Owned;
+
+// How many literals have own lists.
+const LITERALS: u32 = 2048;
 
 // The slots of the own list of l join, in its order.
 fn fill_from<I: Index>(own: &mut Owned<'_>, index: &mut I, l: u32)

@@ -1,9 +1,9 @@
 ghost use Rattle.std.specs.Prelude.{◌≡◌, ℕ, ◌+◌, ◌<◌, ◌≤◌, Bool, false, cond, List, [], ◌∷◌, ◌++◌, length, Some, None, ◌==◌, nat_lt, slice_index};
 ghost use Rattle.network.specs.Clauses.{has, without};
-ghost use Rattle.slotted.specs.Lists.{listed};
+ghost use Rattle.owned.specs.Lists.{listed};
 ghost use Rattle.slotted.specs.Indexes.{Alike, Listing, MayJoin, Sensible};
 
-use crate::owned::Owned;
+use owned::owned::Owned;
 
 // What finds the uses of a literal: the slots listed there, in the order in which they joined. Which literals a slot is listed at is
 // known to the own lists, so what an index says depends on them.

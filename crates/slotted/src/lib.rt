@@ -7,11 +7,6 @@
 
 pub mod as_lists;
 pub mod as_store;
-pub mod changes;
 mod fill;
 pub mod index;
-mod lists;
-pub mod owned;
-pub mod questions;
 pub mod slotted;
-mod words;

@@ -3,7 +3,7 @@ ghost use Rattle.slotted.specs.Tied.{Tied, meaning_of};
 ghost use Rattle.slotted.specs.Law.{Law};
 
 use crate::index::Index;
-use crate::owned::Owned;
+use owned::owned::Owned;
 
 // Own lists and an index, which stands or does not.
 #[derive(Drop)]

@@ -1,7 +1,7 @@
 use Rattle.std.proofs.Common.{◌≡◌, List, sym, ◌∙◌}
 use Rattle.rules.specs.Store.{enterable}
 use Rattle.slotted.specs.Facts.{law}
-use Rattle.slotted.specs.Lists.{listed}
+use Rattle.owned.specs.Lists.{listed}
 use Rattle.slotted.specs.Tied.{meaning_of}
 use Rattle.slotted.proofs.Enters.{Entered, entered_off, entered_on, fits_is, formed_now}
 use Rattle.slotted.proofs.Fronts.{front_take}

@@ -1,7 +1,7 @@
 use Rattle.std.proofs.Common.{◌≡◌, ℕ, sym, subst, arith}
 use Rattle.rules.specs.Store.{removed}
 use Rattle.slotted.specs.Facts.{law}
-use Rattle.slotted.specs.Lists.{At}
+use Rattle.owned.specs.Lists.{At}
 use Rattle.slotted.specs.Tied.{meaning_of}
 use Rattle.slotted.proofs.Removes.{removed_facts, removed_meaning}
 use Rattle.slotted.proofs.Stands.{ties}

@@ -2,7 +2,7 @@ use Rattle.std.proofs.Common.{◌≡◌, ℕ, sym, refl, ◌∙◌, subst, inl, 
 use Rattle.std.proofs.lemmas.Bool.{both_ways, cases_Bool, cond-true, cond-false}
 use Rattle.rules.specs.Store.{shortened}
 use Rattle.slotted.specs.Facts.{law}
-use Rattle.slotted.specs.Lists.{At, listed}
+use Rattle.owned.specs.Lists.{At, listed}
 use Rattle.slotted.specs.Tied.{meaning_of}
 use Rattle.slotted.proofs.Asks.{stands_or}
 use Rattle.slotted.proofs.Shortens.{droppable_is, shortened_alike, shortened_facts, shortened_meaning}

@@ -1,5 +1,5 @@
 use Rattle.std.proofs.Common.{ℕ, sym, ◌∙◌}
-use Rattle.slotted.specs.Lists.{listed}
+use Rattle.owned.specs.Lists.{listed}
 use Rattle.slotted.proofs.Asks.{use_dead, use_live}
 use Rattle.slotted.proofs.as_store.SlottedStore.user.Goals as goal
 
