@@ -32,7 +32,7 @@ pub formed_now : (o : Owned) (C : List ℕ) → true ≡ (well_formed C && ltb (
 formed_now o C e = (and_parts (well_formed C) (ltb (kept o) o.room) (sym e)).0
 
 -- one more at the end of a list
-in_more : (x y : ℕ) (b : Bool) (us : List ℕ) → (y ≡ x → ⊥) → has y (cond b (us ++ (x ∷ [])) us) ≡ has y us
+pub in_more : (x y : ℕ) (b : Bool) (us : List ℕ) → (y ≡ x → ⊥) → has y (cond b (us ++ (x ∷ [])) us) ≡ has y us
 in_more x y true us n = has_same y (us ++ (x ∷ [])) us (λ h. ⊎_elim (λ k. k) (λ k. absurd (⊎_elim n (λ z. z) k)) (in_cases y us (x ∷ []) h)) (in_left y us (x ∷ []))
 in_more x y false us n = refl
 

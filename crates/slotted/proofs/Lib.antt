@@ -7,3 +7,4 @@ pub mod Offs
 pub mod Removes
 pub mod Retires
 pub mod Shortens
+pub mod Fills

@@ -29,6 +29,10 @@ lacks_not x xs l h = all_in (λ y. y ≡ x → ⊥) xs x l h refl
 pub not_lacks : (x : ℕ) (xs : List ℕ) → (In x xs → ⊥) → Lacks x xs
 not_lacks x xs n = in_all (λ y. y ≡ x → ⊥) xs (λ y h e. n (subst (λ z. In z xs) e h))
 
+pub none_in : (xs : List ℕ) → ((x : ℕ) → In x xs → ⊥) → xs ≡ []
+none_in [] n = refl
+none_in (x ∷ xs) n = absurd (n x (inl refl))
+
 pub in_has : (x : ℕ) (xs : List ℕ) → In x xs → has x xs ≡ true
 in_has x xs h = any_from (eqb x) xs x h (eq-eqb x x refl)
 

@@ -20,7 +20,7 @@ use Rattle.owned.specs.Effects.{Retired}
 use Rattle.slotted.specs.Indexes.{Alike, Listing, Sensible}
 use Rattle.owned.specs.Lists.{At, listed, lost, own, text}
 use Rattle.slotted.specs.Tied.{meaning_of}
-use Rattle.slotted.proofs.Members.{all_in, any_low, any_nothing, dropped_in, in_dropped}
+use Rattle.slotted.proofs.Members.{all_in, any_low, any_nothing, dropped_in, in_dropped, none_in}
 use Rattle.owned.proofs.Laws.{own_laws}
 use Rattle.slotted.proofs.Stands.{Facts, HasSlot, Ties, at_own, facts}
 
@@ -48,12 +48,8 @@ module _ (s t : Owned) (ix : Bool) (j : ℕ → Bool) (u : Listing → ℕ → L
         | inr off ↦ any_nothing x (u (listed s)) literals (nothing off) ∙ sym (is ∙ ap (λ (c : Bool). c && ltb 0 (length (listed s x))) off)
       ]
     where
-      empty_is : (us : List ℕ) → ((y : ℕ) → In y us → ⊥) → us ≡ []
-      empty_is [] n = refl
-      empty_is (y ∷ us) n = absurd (n y (inl refl))
-
       nothing : ix ≡ false → (k : ℕ) → u (listed s) k ≡ []
-      nothing off k = empty_is (u (listed s) k) (λ y h. both_ways (j y) ((T.off off).0 y) (all_in (λ z. j z ≡ true) (u (listed s) k) y (S.users (listed s) k) h))
+      nothing off k = none_in (u (listed s) k) (λ y h. both_ways (j y) ((T.off off).0 y) (all_in (λ z. j z ≡ true) (u (listed s) k) y (S.users (listed s) k) h))
 
   losts : length (lost t) ≡ cond (list_any (λ k. has (get_or (own s l) i 0) (u (listed s) k)) literals) (suc (length (lost s))) (length (lost s))
   losts =

@@ -8,7 +8,7 @@ use Rattle.owned.specs.declared.owned.Owned.{Owned}
 use Rattle.slotted.specs.Indexes.{Listing}
 
 -- the slots of the own lists of the literals below l
-abbrev pub earlier : ℕ → Owned → List ℕ
+unfoldable pub earlier : ℕ → Owned → List ℕ
 earlier l o = flat_map (own o) (up_to l)
 
 -- these slots alone have joined, in this order, each listed at the literals of its clause but the last

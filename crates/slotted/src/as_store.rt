@@ -62,14 +62,15 @@ impl<I: Index> Store for Slotted<'_, I> {
     }
 
     fn index_on(&mut self) {
+        if self.indexed {
+            return;
+        }
         let Slotted {
             own,
             index,
             indexed,
         } = self;
-        if !*indexed {
-            fill(own, index);
-        }
+        fill(own, index);
         *indexed = true;
     }
 }
