@@ -1,6 +1,6 @@
 -- A store without an index, and one without a clause. Assumes nothing.
-use Rattle.std.proofs.Common.{◌≡◌, ℕ, ◌≤◌, Bool, true, false, List, [], map, length, sym, refl, ap, ◌∙◌, subst, arith}
-use Rattle.std.proofs.lemmas.Bool.{both_ways}
+use Rattle.std.proofs.Common.{◌≡◌, ℕ, suc, ◌+◌, ◌*◌, ◌≤◌, Bool, true, false, ◌&&◌, ltb, List, [], map, length, sym, refl, ap, ◌∙◌, subst, arith}
+use Rattle.std.proofs.lemmas.Bool.{both_ways, cond_both}
 use Rattle.rules.specs.Store.{emptied, index_off}
 use Rattle.rules.specs.Lawful.{Lawful}
 use Rattle.rules.proofs.Lawful.{emptied_lawful, index_off_lawful}
@@ -10,9 +10,13 @@ use Rattle.owned.specs.declared.owned.Owned.{Owned}
 use Rattle.owned.specs.Effects.{Emptied, Freed}
 use Rattle.slotted.specs.Indexes.{Listing}
 use Rattle.owned.specs.Lists.{listed, lost, own, text}
-use Rattle.slotted.specs.Tied.{blank, meaning_of}
+use Rattle.slotted.specs.Tied.{blank, meaning_of, room_in}
 use Rattle.slotted.proofs.Members.{in_all}
 use Rattle.slotted.proofs.Stands.{Facts, Ties, facts}
+
+-- own lists get no more room than they are to have
+pub room_few : (room links texts : ℕ) → room_in room links texts ≤ room
+room_few room links texts = cond_both (ltb room 4097 && (ltb (2 * room + 4099) links && ltb (35 * room) (suc texts))) room 0 (λ (n : ℕ). n ≤ room) (λ e. omega arith) (λ e. omega arith)
 
 -- no slot has joined, and none is lost
 module _ (t : Owned) (j' : ℕ → Bool) (u' : Listing → ℕ → List ℕ) (none : (y : ℕ) → j' y ≡ false) (gone : lost t ≡ []) (uses : (L : Listing) (k : ℕ) → u' L k ≡ []) where

@@ -1,5 +1,5 @@
 -- How own lists and an index go together. Assumes nothing.
-use Rattle.std.specs.Prelude.{◌≡◌, ℕ, Bool, true, false, ◌||◌, List, [], length, nat_lt}
+use Rattle.std.specs.Prelude.{◌≡◌, ℕ, suc, ◌+◌, ◌*◌, Bool, true, false, ◌&&◌, ◌||◌, List, [], length, if◌then◌else◌, nat_lt}
 use Rattle.std.specs.List.{AllByRecursion, list_any}
 use Rattle.network.specs.Clauses.{has}
 use Rattle.rules.specs.Store.{Meaning, literals}
@@ -15,6 +15,10 @@ meaning_of o ix used = meant o.room ix (own o) (used (listed o)) (text o) (lengt
 -- the meaning of a store of this room without a clause
 abbrev pub blank : ℕ → Meaning
 blank room = record { room = room; indexed = false; own = λ l. []; uses = λ k. []; dead_clauses = 0 }
+
+-- the room that own lists get, which are to have so much in so many words for links and for texts
+abbrev pub room_in : ℕ → ℕ → ℕ → ℕ
+room_in room links texts = if nat_lt room 4097 && (nat_lt (2 * room + 4099) links && nat_lt (35 * room) (suc texts)) then room else 0
 
 -- an own list has slot x, or it is lost
 abbrev pub is_kept : Owned → ℕ → Bool

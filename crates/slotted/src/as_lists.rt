@@ -1,11 +1,26 @@
-ghost use Rattle.std.specs.Prelude.{◌≡◌, ℕ, ◌+◌, ◌*◌, Bool, false, ◌&&◌, List, [], length, if◌then◌else◌, nat_lt, suc};
+ghost use Rattle.std.specs.Prelude.{◌≡◌, length};
 ghost use Rattle.owned.specs.Lists.{At};
-ghost use Rattle.slotted.specs.Tied.{meaning_of};
+ghost use Rattle.slotted.specs.Tied.{blank, meaning_of, room_in};
 
 use crate::index::Index;
 use owned::owned::Owned;
 use crate::slotted::Slotted;
 use store::lists::Lists;
+
+impl<'a, I: Index> Slotted<'a, I> {
+    // A store without a clause over this index, in these words. Its room is the index's, or 0 where that is more than 4,096 or the
+    // words are too few for it.
+    pub fn new(links: &'a mut [u32], texts: &'a mut [u32], mut index: I) -> Self
+        ensures { meaning_of result.own result.indexed (I.used result.index) ≡ blank (room_in (I.slots index) (length links.old) (length texts.old)) }
+    {
+        index.clear();
+        Slotted {
+            own: Owned::new(links, texts, index.room()),
+            index,
+            indexed: false,
+        }
+    }
+}
 
 impl<I: Index> Lists for Slotted<'_, I> {
     type Handle = I::Handle;
