@@ -1,11 +1,11 @@
 -- What the questions of a store read. Assumes nothing.
-use Rattle.std.proofs.Common.{◌≡◌, ℕ, zero, suc, ◌+◌, ◌<◌, ◌≤◌, Bool, true, false, ◌&&◌, eqb, ◌⊎◌, List, [], map, length, get_or, sym, refl, ap, ◌∙◌, subst, inl, inr, arith}
+use Rattle.std.proofs.Common.{◌≡◌, ℕ, zero, suc, ◌+◌, ◌<◌, Bool, ◌&&◌, eqb, ◌⊎◌, List, map, length, get_or, sym, refl, ap, ◌∙◌, subst, inl, inr, arith}
 use mathlib.Core.Path.{fun_ext}
 use Rattle.std.proofs.lemmas.Bool.{and_from, and_left, and_right, cases_eq, eq-eqb, ne_eqb}
 use Rattle.std.proofs.lemmas.List.{get_or-map, length-map}
 use Rattle.network.specs.Clauses.{last}
 use Rattle.network.specs.Lists.{In}
-use Rattle.rules.specs.Store.{Meaning, dead, from, live, live_clauses, sum_of}
+use Rattle.rules.specs.Store.{dead, from, live, live_clauses, sum_of}
 use Rattle.slots.specs.Slots.{ref}
 use Rattle.slots.proofs.Slots.{member, ref_at, seek_lacks}
 use Rattle.store.proofs.Walks.{walked_step}

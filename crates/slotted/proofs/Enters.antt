@@ -1,12 +1,11 @@
 -- A clause entered, in own lists and in an index. Assumes nothing.
-use Rattle.std.proofs.Common.{◌≡◌, ℕ, suc, ◌+◌, ◌<◌, ◌≤◌, Bool, true, false, cond, ◌&&◌, eqb, ltb, ◌⊎◌, List, [], ◌∷◌, ◌++◌, length, get_or, sym, refl, ap, ◌∙◌, subst, inl, inr, ⊎_elim, arith}
-use Rattle.std.specs.List.{AllByRecursion}
-use Rattle.std.proofs.lemmas.Bool.{and_parts, both_ways, cases_Bool, cases_eq, cond-true, cond-false}
+use Rattle.std.proofs.Common.{◌≡◌, ℕ, ◌+◌, ◌<◌, ◌≤◌, Bool, true, false, cond, ◌&&◌, eqb, ltb, ◌⊎◌, List, [], ◌∷◌, ◌++◌, length, get_or, sym, refl, ap, ◌∙◌, subst, inl, inr, ⊎_elim, arith}
+use Rattle.std.proofs.lemmas.Bool.{and_parts, both_ways, cases_Bool, cases_eq}
 use Rattle.std.proofs.lemmas.List.{get_or_append_left, length_push}
 use Rattle.network.specs.Lists.{In}
 use Rattle.network.specs.Clauses.{front, has, last, well_formed}
 use Rattle.network.proofs.Lists.{in_cases, in_left, in_right}
-use Rattle.rings.specs.Rings.{Lacks, at}
+use Rattle.rings.specs.Rings.{Lacks}
 use Rattle.rings.proofs.Drops.{at_here, at_else}
 use Rattle.rules.specs.Store.{enterable, entered}
 use Rattle.rules.specs.Lawful.{Lawful}
@@ -15,7 +14,7 @@ use Rattle.slots.specs.Slots.{meant}
 use Rattle.slots.proofs.Slots.{entered_is}
 use Rattle.owned.specs.declared.owned.Owned.{Owned}
 use Rattle.owned.specs.Effects.{Admitted}
-use Rattle.slotted.specs.Indexes.{Alike, Listing, MayJoin, Sensible}
+use Rattle.slotted.specs.Indexes.{Listing, MayJoin, Sensible}
 use Rattle.owned.specs.Lists.{At, kept, listed, lost, own, text}
 use Rattle.slotted.specs.Tied.{meaning_of}
 use Rattle.slotted.proofs.Asks.{live_is}

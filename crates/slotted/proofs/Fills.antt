@@ -1,7 +1,6 @@
 -- The slots of own lists join an index, one after the other. Assumes nothing.
-use Rattle.std.proofs.Common.{◌≡◌, ℕ, zero, suc, ◌+◌, ◌-◌, ◌<◌, ◌≤◌, Bool, true, false, cond, ◌&&◌, eqb, ltb, ◌⊎◌, List, [], ◌∷◌, ◌++◌, length, get_or, slice_index, take, Some, None, Option, filter, sym, refl, ap, ◌∙◌, subst, inl, inr, ⊎_elim, arith, flat_map}
+use Rattle.std.proofs.Common.{◌≡◌, ℕ, zero, suc, ◌+◌, ◌<◌, ◌≤◌, Bool, true, false, cond, ◌&&◌, eqb, ltb, List, [], ◌∷◌, ◌++◌, length, get_or, slice_index, take, Some, None, Option, filter, sym, refl, ap, ◌∙◌, subst, inl, inr, ⊎_elim, arith, flat_map}
 use mathlib.Core.Path.{fun_ext}
-use Rattle.std.specs.List.{AllByRecursion}
 use Rattle.std.proofs.lemmas.Bool.{and_parts, both_ways, cases_Bool, cases_eq, cond-true, cond-false, eq-eqb, ne_eqb}
 use Rattle.std.proofs.lemmas.List.{append-nil, append_assoc, take_all}
 use Rattle.std.proofs.lemmas.List.Elements.{filter-append}
@@ -9,7 +8,7 @@ use Rattle.std.proofs.Math.Seq.{take-suc}
 use Rattle.std.proofs.ByRecursion.{All-get_or}
 use Rattle.network.specs.Lists.{In}
 use Rattle.network.specs.Clauses.{front, has, well_formed}
-use Rattle.network.proofs.Lists.{flat_map_in, has_in, in_cases, in_flat_map, in_kept, in_left, in_right, kept_in}
+use Rattle.network.proofs.Lists.{flat_map_in, has_in, in_cases, in_flat_map, in_kept, in_right, kept_in}
 use Rattle.rings.specs.Rings.{Differ, Lacks}
 use Rattle.rings.proofs.Drops.{at_here, at_else}
 use Rattle.rules.specs.Store.{Meaning, filled, from, index_on, literals, up_to}
@@ -29,7 +28,7 @@ use Rattle.slotted.specs.Indexes.{Listing, MayJoin, Sensible}
 use Rattle.slotted.specs.Tied.{meaning_of}
 use Rattle.slotted.proofs.Enters.{in_more}
 use Rattle.slotted.proofs.Fronts.{may_join}
-use Rattle.slotted.proofs.Members.{all_in, has_not, has_same, in_all, in_has, lacks_not, none_in, not_lacks, place_in, place_of}
+use Rattle.slotted.proofs.Members.{all_in, has_not, in_all, in_has, lacks_not, none_in, not_lacks, place_of}
 use Rattle.slotted.proofs.Stands.{Facts, Ties, at_own, facts, own_formed, own_low}
 
 -- ## Lists

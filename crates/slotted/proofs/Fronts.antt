@@ -1,10 +1,8 @@
 -- The literals of a clause but the last. Assumes nothing.
-use Rattle.std.proofs.Common.{◌≡◌, ℕ, suc, ◌+◌, ◌-◌, ◌/◌, ◌<◌, ◌≤◌, Bool, true, false, List, [], ◌∷◌, length, take, refl, ap, ◌∙◌, inl, inr, ⊎_elim, arith}
-use Rattle.std.specs.List.{AllByRecursion}
-use Rattle.network.specs.Assignments.{node}
-use Rattle.network.specs.Clauses.{Ordered, front, in_order, last, well_formed}
+use Rattle.std.proofs.Common.{◌≡◌, ℕ, suc, ◌+◌, ◌-◌, ◌<◌, ◌≤◌, Bool, true, false, List, [], ◌∷◌, length, take, refl, ap, ◌∙◌, inl, inr, ⊎_elim, arith}
+use Rattle.network.specs.Clauses.{Ordered, front, well_formed}
 use Rattle.network.specs.Lists.{In}
-use Rattle.rules.proofs.Formed.{Formed, formed_parts, front_below, is_order}
+use Rattle.rules.proofs.Formed.{formed_parts, front_below, is_order}
 use Rattle.slotted.specs.Indexes.{MayJoin}
 use Rattle.slotted.proofs.Members.{in_all}
 

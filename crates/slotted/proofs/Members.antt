@@ -1,8 +1,8 @@
 -- Members of lists. Assumes nothing.
-use Rattle.std.proofs.Common.{◌≡◌, ℕ, zero, suc, ◌+◌, ◌-◌, ◌<◌, ◌≤◌, Bool, true, false, cond, not, eqb, ltb, ◌⊎◌, List, [], ◌∷◌, ◌++◌, map, length, get_or, take, set, filter, sym, refl, ap, ◌∙◌, subst, inl, inr, arith, flat_map}
+use Rattle.std.proofs.Common.{◌≡◌, ℕ, zero, suc, ◌-◌, ◌<◌, true, false, not, eqb, ltb, List, [], ◌∷◌, length, get_or, take, sym, refl, ap, ◌∙◌, subst, inl, inr, arith}
 use Rattle.std.specs.List.{AllByRecursion, list_any}
 use Rattle.std.proofs.lemmas.Bool.{cases_eq, cases_lt, cases_Bool, eq-eqb, both_ways, ne_eqb, lt-ltb}
-use Rattle.std.proofs.ByRecursion.{All-get_or, All-from_get_or, All-set, All-take}
+use Rattle.std.proofs.ByRecursion.{All-set, All-take}
 use Rattle.network.specs.Lists.{In}
 use Rattle.network.specs.Clauses.{has, without}
 use Rattle.network.proofs.Lists.{any_from, any_some, has_in, in_kept, kept_in}

@@ -1,13 +1,13 @@
 -- A store without an index, and one without a clause. Assumes nothing.
-use Rattle.std.proofs.Common.{◌≡◌, ℕ, suc, ◌+◌, ◌*◌, ◌≤◌, Bool, true, false, ◌&&◌, ltb, List, [], map, length, sym, refl, ap, ◌∙◌, subst, arith}
+use Rattle.std.proofs.Common.{◌≡◌, ℕ, suc, ◌+◌, ◌*◌, ◌≤◌, Bool, false, ◌&&◌, ltb, List, [], map, length, sym, refl, ap, ◌∙◌, subst, arith}
 use Rattle.std.proofs.lemmas.Bool.{both_ways, cond_both}
-use Rattle.rules.specs.Store.{emptied, index_off}
+use Rattle.rules.specs.Store.{index_off}
 use Rattle.rules.specs.Lawful.{Lawful}
 use Rattle.rules.proofs.Lawful.{emptied_lawful, index_off_lawful}
 use Rattle.slots.specs.Slots.{meant, ref}
 use Rattle.slots.proofs.Slots.{map_same, same_meaning}
 use Rattle.owned.specs.declared.owned.Owned.{Owned}
-use Rattle.owned.specs.Effects.{Emptied, Freed}
+use Rattle.owned.specs.Effects.{Freed}
 use Rattle.slotted.specs.Indexes.{Listing}
 use Rattle.owned.specs.Lists.{listed, lost, own, text}
 use Rattle.slotted.specs.Tied.{blank, meaning_of, room_in}

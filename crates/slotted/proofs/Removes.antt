@@ -1,5 +1,5 @@
 -- A clause removed from own lists and an index. Assumes nothing.
-use Rattle.std.proofs.Common.{◌≡◌, ℕ, ◌-◌, ◌<◌, ◌≤◌, Bool, true, false, cond, eqb, ltb, ◌⊎◌, List, [], ◌∷◌, length, get_or, sym, refl, ap, ◌∙◌, subst, inl, inr, arith}
+use Rattle.std.proofs.Common.{◌≡◌, ℕ, ◌≤◌, Bool, false, cond, eqb, ltb, List, length, sym, ap, ◌∙◌, subst, inl, inr, arith}
 use mathlib.Core.Path.{fun_ext}
 use Rattle.std.proofs.lemmas.Bool.{both_ways, cases_eq}
 use Rattle.std.proofs.lemmas.List.{length-map}
@@ -18,7 +18,7 @@ use Rattle.owned.specs.Lists.{At, listed, lost, own, text}
 use Rattle.slotted.specs.Tied.{meaning_of}
 use Rattle.slotted.proofs.Members.{filled_in, filled_out, has_without, in_filled, place_of}
 use Rattle.owned.proofs.Laws.{own_laws}
-use Rattle.slotted.proofs.Stands.{Facts, HasSlot, Ties, at_own, facts}
+use Rattle.slotted.proofs.Stands.{Facts, HasSlot, Ties, facts}
 
 module _ (s t : Owned) (ix : Bool) (j : ℕ → Bool) (u : Listing → ℕ → List ℕ) (S : Sensible j u) (T : Ties s ix j u) (x l i : ℕ) (a : At s x l i) (R : Released x l i s t)
     (j' : ℕ → Bool) (u' : Listing → ℕ → List ℕ) (joins : (y : ℕ) → j' y ≡ cond (eqb y x) false (j y)) (uses : (L : Listing) (k : ℕ) → u' L k ≡ without x (u L k)) where

@@ -1,11 +1,10 @@
 -- What the facts of a store say, member by member, and how they are kept. Assumes nothing.
-use Rattle.std.proofs.Common.{◌≡◌, ℕ, ◌+◌, ◌<◌, ◌≤◌, Bool, true, false, ◌||◌, ltb, ◌⊎◌, List, [], ◌∷◌, length, get_or, sym, ap, ◌∙◌, subst, inl, inr, arith}
+use Rattle.std.proofs.Common.{◌≡◌, ℕ, ◌<◌, ◌≤◌, Bool, true, false, ◌||◌, ltb, ◌⊎◌, List, [], ◌∷◌, length, sym, ap, ◌∙◌, subst, inl, inr, arith}
 use mathlib.Core.Logic.{∥∥₁_elim}
 use denote.Struct.Props.{≡_prop}
 use base.Stored.{coded_ℕ, coded_bool, coded_list}
 use Rattle.std.specs.List.{AllByRecursion, list_any}
 use Rattle.std.proofs.lemmas.Bool.{cases_Bool, or_right}
-use Rattle.std.proofs.ByRecursion.{All-get_or}
 use Rattle.network.specs.Lists.{In}
 use Rattle.network.specs.Clauses.{has, last, well_formed}
 use Rattle.network.proofs.Lists.{any_from, any_some, has_in}
@@ -13,13 +12,12 @@ use Rattle.rules.specs.Store.{Meaning, literals}
 use Rattle.rules.specs.Lawful.{Lawful}
 use Rattle.rules.proofs.Formed.{formed_parts}
 use Rattle.rules.proofs.Index.{in_up_to}
-use Rattle.slots.specs.Slots.{Kept}
 use Rattle.owned.specs.declared.owned.Owned.{Owned}
-use Rattle.slotted.specs.Indexes.{Listing, Sensible}
+use Rattle.slotted.specs.Indexes.{Listing}
 use Rattle.slotted.specs.Law.{Law}
 use Rattle.owned.specs.Lists.{own, lost, text, listed, At}
 use Rattle.slotted.specs.Tied.{Tied, is_kept, meaning_of}
-use Rattle.slotted.proofs.Members.{all_in, in_all, in_has, place_in, place_of}
+use Rattle.slotted.proofs.Members.{all_in, in_all, in_has, place_in}
 use Rattle.owned.proofs.Laws.{own_laws}
 
 -- ## Own lists

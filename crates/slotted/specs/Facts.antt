@@ -1,6 +1,6 @@
 -- What holds of every such store, out of what its fields keep. Assumes nothing.
 -- The proofs stand here, since the laws of the code's `impl` cite them.
-use Rattle.std.specs.Prelude.{◌≡◌, ℕ, ◌<◌, ◌≤◌, true, List, length}
+use Rattle.std.specs.Prelude.{true, length}
 use Rattle.std.proofs.lemmas.List.{nil_from_length}
 use mathlib.Core.Logic.{∥∥₁_elim}
 use native.Mathlib.Bridge.{le_prop}

@@ -1,5 +1,5 @@
 -- How far the slots of own lists have joined an index. Assumes nothing.
-use Rattle.std.specs.Prelude.{◌≡◌, ℕ, ◌<◌, ◌≤◌, Bool, ◌&&◌, List, length, filter, nat_lt, flat_map}
+use Rattle.std.specs.Prelude.{◌≡◌, ℕ, ◌≤◌, Bool, ◌&&◌, List, length, filter, nat_lt, flat_map}
 use Rattle.std.specs.List.{AllByRecursion}
 use Rattle.network.specs.Clauses.{front, has}
 use Rattle.rules.specs.Store.{up_to}

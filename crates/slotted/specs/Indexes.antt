@@ -1,6 +1,6 @@
 -- What an index of slots is: which slots have joined it, and the uses of each literal by the literals that the slots are listed at.
 -- Assumes nothing.
-use Rattle.std.specs.Prelude.{◌≡◌, ℕ, ◌+◌, ◌<◌, ◌≤◌, Bool, true, false, List, [], length, nat_lt}
+use Rattle.std.specs.Prelude.{◌≡◌, ℕ, ◌+◌, ◌<◌, ◌≤◌, Bool, true, false, List, [], length}
 use Rattle.std.specs.List.{AllByRecursion}
 use Rattle.rings.specs.Rings.{Differ}
 use Rattle.network.specs.Clauses.{has, in_order}

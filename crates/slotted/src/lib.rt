@@ -5,8 +5,8 @@
 // Rests on `owned` (own lists), `slots` (the meaning by slots), `store` (the traits and the check) and `rules` (the meaning).
 #![tactic(auto)]
 
-pub mod as_lists;
-pub mod as_store;
 mod fill;
 pub mod index;
+pub mod lists;
 pub mod slotted;
+pub mod uses;

@@ -1,6 +1,6 @@
 use Rattle.std.proofs.Common.{arith}
 use Rattle.slotted.proofs.Offs.{blank_facts}
-use Rattle.slotted.proofs.as_lists.SlottedLists.empty.Goals as goal
+use Rattle.slotted.proofs.lists.SlottedLists.empty.Goals as goal
 
 pub invariant_of-self : goal.invariant_of-self
 invariant_of-self g c =

@@ -1,6 +1,6 @@
-use Rattle.std.proofs.Common.{eqb, ◌≡◌, ◌∙◌, ap}
+use Rattle.std.proofs.Common.{eqb, ◌≡◌, ◌∙◌}
 use Rattle.slotted.proofs.Asks.{same_slot}
-use Rattle.slotted.proofs.as_store.SlottedStore.same.Goals as goal
+use Rattle.slotted.proofs.uses.SlottedStore.same.Goals as goal
 
 pub returns : goal.returns
 returns g c =

@@ -7,9 +7,9 @@ use Rattle.slotted.specs.Tied.{meaning_of}
 use Rattle.slotted.proofs.Asks.{stands_or}
 use Rattle.slotted.proofs.Retires.{retired_alike, retired_facts, retired_follow, retired_meaning}
 use Rattle.slotted.proofs.Stands.{facts_stay, ties}
-use Rattle.slotted.proofs.as_store.SlottedStore.retire_at.Goals as goal
-use Rattle.slotted.proofs.as_store.SlottedStore.retire_at.Goals.{After-retire, then-self, else-self}
-use Rattle.slotted.proofs.as_store.SlottedStore.retire_at.Given.{Over}
+use Rattle.slotted.proofs.uses.SlottedStore.retire_at.Goals as goal
+use Rattle.slotted.proofs.uses.SlottedStore.retire_at.Goals.{After-retire, then-self, else-self}
+use Rattle.slotted.proofs.uses.SlottedStore.retire_at.Given.{Over}
 
 -- whether it is to be lost
 used_is : (g : Over) (c : After-retire g) → c.if-self.used ≡ (c.args.self.now.indexed && ltb 0 (length (listed c.args.self.now.own c.named-x.result)))

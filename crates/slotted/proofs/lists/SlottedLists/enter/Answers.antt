@@ -1,14 +1,13 @@
-use Rattle.std.proofs.Common.{◌≡◌, List, sym, ◌∙◌}
-use Rattle.rules.specs.Store.{enterable}
+use Rattle.std.proofs.Common.{sym, ◌∙◌}
 use Rattle.slotted.specs.Facts.{law}
 use Rattle.owned.specs.Lists.{listed}
 use Rattle.slotted.specs.Tied.{meaning_of}
 use Rattle.slotted.proofs.Enters.{Entered, entered_off, entered_on, fits_is, formed_now}
 use Rattle.slotted.proofs.Fronts.{front_take}
 use Rattle.slotted.proofs.Stands.{ties}
-use Rattle.slotted.proofs.as_lists.SlottedLists.enter.Goals as goal
-use Rattle.slotted.proofs.as_lists.SlottedLists.enter.Goals.{After-join, Else-indexed}
-use Rattle.slotted.proofs.as_lists.SlottedLists.enter.Given.{Over}
+use Rattle.slotted.proofs.lists.SlottedLists.enter.Goals as goal
+use Rattle.slotted.proofs.lists.SlottedLists.enter.Goals.{After-join, Else-indexed}
+use Rattle.slotted.proofs.lists.SlottedLists.enter.Given.{Over}
 
 on : (g : Over) (c : After-join g) → Entered c.args.self.now.own c.admit.new.self c.args.self.now.indexed (g.I.Index.joined c.args.self.now.index) (g.I.Index.used c.args.self.now.index) (g.met.I.Index.sensible c.args.self.now.index) (ties c.args.self.now.tied) c.in-Some.x c.args.clause.now c.in-Some.ensures.makes (formed_now c.args.self.now.own c.args.clause.now c.in-Some.ensures.when) (g.I.Index.slots c.join.new.self) (g.I.Index.joined c.join.new.self) (g.I.Index.used c.join.new.self)
 on g c =

@@ -2,7 +2,7 @@ use Rattle.slotted.specs.Facts.{law}
 use Rattle.slotted.specs.Tied.{meaning_of}
 use Rattle.slotted.proofs.Fills.{filled_facts, filled_meaning, filled_none, index_stays}
 use Rattle.slotted.proofs.Stands.{ties}
-use Rattle.slotted.proofs.as_store.SlottedStore.index_on.Goals as goal
+use Rattle.slotted.proofs.uses.SlottedStore.index_on.Goals as goal
 
 pub fill-requires : goal.fill-requires
 fill-requires g c = let s = c.args.self.now in filled_none s.own s.indexed (g.I.Index.slots s.index) (g.I.Index.joined s.index) (g.I.Index.used s.index) (g.met.I.Index.sensible s.index) (ties s.tied) c.if-self.false s.fits

@@ -5,9 +5,9 @@ use Rattle.owned.specs.Lists.{At}
 use Rattle.slotted.specs.Tied.{meaning_of}
 use Rattle.slotted.proofs.Removes.{removed_facts, removed_meaning}
 use Rattle.slotted.proofs.Stands.{ties}
-use Rattle.slotted.proofs.as_store.SlottedStore.remove_at.Goals as goal
-use Rattle.slotted.proofs.as_store.SlottedStore.remove_at.Goals.{After-release}
-use Rattle.slotted.proofs.as_store.SlottedStore.remove_at.Given.{Over}
+use Rattle.slotted.proofs.uses.SlottedStore.remove_at.Goals as goal
+use Rattle.slotted.proofs.uses.SlottedStore.remove_at.Goals.{After-release}
+use Rattle.slotted.proofs.uses.SlottedStore.remove_at.Given.{Over}
 
 pub invariant_of-self-2 : goal.invariant_of-self-2
 invariant_of-self-2 g c =

@@ -7,7 +7,7 @@ use Rattle.slotted.specs.Tied.{meaning_of}
 use Rattle.slotted.proofs.Asks.{stands_or}
 use Rattle.slotted.proofs.Shortens.{droppable_is, shortened_alike, shortened_facts, shortened_meaning}
 use Rattle.slotted.proofs.Stands.{facts_stay, ties}
-use Rattle.slotted.proofs.as_store.SlottedStore.shorten_at.Goals as goal
+use Rattle.slotted.proofs.uses.SlottedStore.shorten_at.Goals as goal
 
 pub invariant_of-self : goal.invariant_of-self
 invariant_of-self g c =

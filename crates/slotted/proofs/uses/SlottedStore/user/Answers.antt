@@ -1,7 +1,7 @@
-use Rattle.std.proofs.Common.{ℕ, sym, ◌∙◌}
+use Rattle.std.proofs.Common.{sym, ◌∙◌}
 use Rattle.owned.specs.Lists.{listed}
 use Rattle.slotted.proofs.Asks.{use_dead, use_live}
-use Rattle.slotted.proofs.as_store.SlottedStore.user.Goals as goal
+use Rattle.slotted.proofs.uses.SlottedStore.user.Goals as goal
 
 pub returns-in_err-home : goal.returns-in_err-home
 returns-in_err-home g c =
