@@ -10,8 +10,9 @@ use Rattle.rings.proofs.Drops.{at_here, at_else}
 use Rattle.rules.specs.Store.{enterable, entered}
 use Rattle.rules.specs.Lawful.{Lawful}
 use Rattle.rules.proofs.Lawful.{entered_lawful}
-use Rattle.slots.specs.Slots.{meant}
 use Rattle.slots.proofs.Slots.{entered_is}
+use Rattle.rules.proofs.Answers.{has_from}
+use Rattle.owned.proofs.Moves.{all_in, in_all}
 use Rattle.owned.specs.declared.owned.Owned.{Owned}
 use Rattle.owned.specs.Effects.{Admitted}
 use Rattle.slotted.specs.Indexes.{Listing, MayJoin, Sensible}
@@ -19,8 +20,8 @@ use Rattle.owned.specs.Lists.{At, kept, listed, lost, own, text}
 use Rattle.slotted.specs.Tied.{meaning_of}
 use Rattle.slotted.proofs.Asks.{live_is}
 use Rattle.slotted.proofs.Fronts.{may_join}
-use Rattle.slotted.proofs.Members.{all_in, has_not, has_same, in_all, in_has, lacks_not, not_lacks}
-use Rattle.slotted.proofs.Stands.{Facts, HasSlot, Ties, facts}
+use Rattle.slotted.proofs.Members.{has_not, has_same, lacks_not, not_lacks}
+use Rattle.slotted.proofs.Stands.{Facts, HasSlot, Ties, facts, meaning_is}
 
 -- whether a clause may be entered
 pub fits_is : (o : Owned) (ix : Bool) (used : Listing → ℕ → List ℕ) (C : List ℕ) → (well_formed C && ltb (kept o) o.room) ≡ enterable (meaning_of o ix used) C
@@ -36,7 +37,7 @@ in_more x y true us n = has_same y (us ++ (x ∷ [])) us (λ h. ⊎_elim (λ k. 
 in_more x y false us n = refl
 
 in_last : (x : ℕ) (b : Bool) (us : List ℕ) → Lacks x us → has x (cond b (us ++ (x ∷ [])) us) ≡ b
-in_last x true us l = in_has x (us ++ (x ∷ [])) (in_right x us (x ∷ []) (inl refl))
+in_last x true us l = has_from x (us ++ (x ∷ [])) (in_right x us (x ∷ []) (inl refl))
 in_last x false us l = has_not x us (lacks_not x us l)
 
 -- the store before, and own lists with a clause more
@@ -72,7 +73,7 @@ module _ (s t : Owned) (ix : Bool) (j : ℕ → Bool) (u : Listing → ℕ → L
   same_uses = S.depends (listed s) (listed t) (λ y k e. ap (has k) (sym (listing y (others y e))))
 
   unused : (k : ℕ) → Lacks x (u (listed s) k)
-  unused k = not_lacks x (u (listed s) k) (λ h. both_ways (j x) not_joined (all_in (λ y. j y ≡ true) (u (listed s) k) x (S.users (listed s) k) h))
+  unused k = not_lacks x (u (listed s) k) (λ h. both_ways (j x) not_joined (all_in (λ y. j y ≡ true) (u (listed s) k) (S.users (listed s) k) x h))
 
   own_in : (l y : ℕ) → In y (own s l) → In y (own t l)
   own_in l y h =
@@ -118,8 +119,7 @@ module _ (s t : Owned) (ix : Bool) (j : ℕ → Bool) (u : Listing → ℕ → L
 
     entered_meaning : meaning_of t ix u' ≡ entered C (meaning_of s ix u)
     entered_meaning =
-        ap (λ (r : ℕ). meant r ix (own t) (u' (listed t)) (text t) (length (lost t))) A.room
-        ∙ ap (λ (ys : List ℕ). meant s.room ix (own t) (u' (listed t)) (text t) (length ys)) A.losts
+        meaning_is t ix u' s.room (own t) (u' (listed t)) (text t) (length (lost s)) A.room (λ m. refl) (λ k. refl) (λ y. refl) (ap length A.losts)
         ∙ entered_is s.room ix (own s) (u (listed s)) (text s) (own t) (u' (listed t)) (text t) (length (lost s)) x C A.fresh unused A.owns uses_old
         (A.texts x ∙ at_here (text s) x C x refl)
         (λ l. in_all (λ y. text t y ≡ text s y) (own s l) (λ y h. A.texts y ∙ at_else (text s) x C y (λ q. lacks_not x (own s l) (A.fresh l) (subst (λ (z : ℕ). In z (own s l)) q h))))

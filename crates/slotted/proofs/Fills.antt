@@ -17,19 +17,20 @@ use Rattle.rules.proofs.Formed.{formed_parts}
 use Rattle.rules.proofs.Index.{in_up_to}
 use Rattle.rules.proofs.Lawful.{index_on_lawful}
 use Rattle.rules.proofs.Start.{from_in}
-use Rattle.slots.specs.Slots.{meant}
 use Rattle.slots.proofs.Changes.{indexed_is}
 use Rattle.owned.specs.declared.owned.Owned.{Owned}
 use Rattle.owned.specs.Effects.{Relisted}
 use Rattle.owned.specs.Lists.{At, listed, lost, own, text}
+use Rattle.rules.proofs.Answers.{has_from}
 use Rattle.owned.proofs.Laws.{own_laws}
+use Rattle.owned.proofs.Moves.{all_in, in_all}
 use Rattle.slotted.specs.Filled.{Filled, SameLists, earlier}
 use Rattle.slotted.specs.Indexes.{Listing, MayJoin, Sensible}
 use Rattle.slotted.specs.Tied.{meaning_of}
 use Rattle.slotted.proofs.Enters.{in_more}
 use Rattle.slotted.proofs.Fronts.{may_join}
-use Rattle.slotted.proofs.Members.{all_in, has_not, in_all, in_has, lacks_not, none_in, not_lacks, place_of}
-use Rattle.slotted.proofs.Stands.{Facts, Ties, at_own, facts, own_formed, own_low}
+use Rattle.slotted.proofs.Members.{has_not, lacks_not, none_in, not_lacks, place_of}
+use Rattle.slotted.proofs.Stands.{Facts, Ties, at_own, facts, meaning_is, own_formed, own_low}
 
 -- ## Lists
 
@@ -71,7 +72,7 @@ filter_push p xs x =
 has_filter : (p : ℕ → Bool) (x : ℕ) (xs : List ℕ) → In x xs → has x (filter p xs) ≡ p x
 has_filter p x xs h =
     elim (cases_Bool (p x)) [
-      | inl t ↦ in_has x (filter p xs) (in_kept p x xs h t) ∙ sym t
+      | inl t ↦ has_from x (filter p xs) (in_kept p x xs h t) ∙ sym t
       | inr f ↦ has_not x (filter p xs) (λ k. both_ways (p x) f (kept_in p x xs k).1) ∙ sym f
     ]
 
@@ -118,14 +119,14 @@ module _ (xs : List ℕ) (o t : Owned) (slots : ℕ) (j : ℕ → Bool) (u : Lis
   filled_push = record {
     fits = (let f = F.fits in let e = R.room in omega arith);
     joins = λ y. js may y ∙ elim (cases_eq y x) [
-      | inl q ↦ at_here j x (ltb 0 (length lits)) y q ∙ ap (λ (D : List ℕ). ltb 0 (length D)) (fr ∙ ap (λ (z : ℕ). front (text t z)) (sym q)) ∙ ap (λ (b : Bool). b && ltb 0 (length (front (text t y)))) (sym (in_has y (xs ++ (x ∷ [])) (in_right y xs (x ∷ []) (inl q))))
+      | inl q ↦ at_here j x (ltb 0 (length lits)) y q ∙ ap (λ (D : List ℕ). ltb 0 (length D)) (fr ∙ ap (λ (z : ℕ). front (text t z)) (sym q)) ∙ ap (λ (b : Bool). b && ltb 0 (length (front (text t y)))) (sym (has_from y (xs ++ (x ∷ [])) (in_right y xs (x ∷ []) (inl q))))
       | inr n ↦ at_else j x (ltb 0 (length lits)) y n ∙ F.joins y ∙ ap (λ (D : List ℕ). has y xs && ltb 0 (length D)) (sym (fronts y)) ∙ ap (λ (b : Bool). b && ltb 0 (length (front (text t y)))) (sym (in_more x y true xs n))
     ];
     uses = λ k.
         let p : ℕ → Bool = λ y. has k (front (text t y)) in
         us may here k ∙ ap (λ (D : List ℕ). cond (has k D) (u (listed t) k ++ (x ∷ [])) (u (listed t) k)) fr ∙ ap (λ (ys : List ℕ). cond (p x) (ys ++ (x ∷ [])) ys) (old k) ∙ sym (filter_push p xs x);
     lists = in_all (λ y. listed t y ≡ front (text t y)) (xs ++ (x ∷ [])) (λ y h. ⊎_elim
-        (λ k. else y (not_in y k) ∙ all_in (λ z. listed o z ≡ front (text o z)) xs y F.lists k ∙ sym (fronts y))
+        (λ k. else y (not_in y k) ∙ all_in (λ z. listed o z ≡ front (text o z)) xs F.lists y k ∙ sym (fronts y))
         (λ k. ⊎_elim (λ q. subst (λ (z : ℕ). listed t z ≡ front (text t z)) (sym q) (here ∙ fr)) (λ z. absurd z) k) (in_cases y xs (x ∷ []) h));
   }
 
@@ -220,7 +221,7 @@ module _ (s o t : Owned) (l slots : ℕ) (j : ℕ → Bool) (u : Listing → ℕ
     pub along_next : (at : Option ℕ) → Stand (own s l) (i + 1) at → Along s t l slots' j' u' at
     along_next at st =
         let h : In x (own o l) = at_own o x l i stands_at in
-        let f = filled_push (earlier l s ++ take i (own s l)) o t slots j u S a.filled x R not_yet (all_in _ (own o l) x ((own_laws o).owned_slots l) h) (own_formed o l x h) slots' j' u' lits fr same js us in
+        let f = filled_push (earlier l s ++ take i (own s l)) o t slots j u S a.filled x R not_yet (all_in _ (own o l) ((own_laws o).owned_slots l) x h) (own_formed o l x h) slots' j' u' lits fr same js us in
         let e : suc i ≡ i + 1 = omega arith in
         let more : (earlier l s ++ take i (own s l)) ++ (x ∷ []) ≡ earlier l s ++ take (i + 1) (own s l) =
           append_assoc (earlier l s) (take i (own s l)) (x ∷ []) ∙ ap (λ (ys : List ℕ). earlier l s ++ ys) (ap (λ (z : ℕ). take i (own s l) ++ (z ∷ [])) (sym a.stands.1) ∙ sym (take-suc (own s l) i 0 a.stands.0) ∙ ap (λ (n : ℕ). take n (own s l)) e) in
@@ -261,7 +262,7 @@ module _ (s : Owned) (ix : Bool) (slots : ℕ) (j : ℕ → Bool) (u : Listing �
   filled_none f = record {
     fits = f;
     joins = (T.off off).0;
-    uses = λ k. none_in (u (listed s) k) (λ y h. both_ways (j y) ((T.off off).0 y) (all_in (λ z. j z ≡ true) (u (listed s) k) y (S.users (listed s) k) h));
+    uses = λ k. none_in (u (listed s) k) (λ y h. both_ways (j y) ((T.off off).0 y) (all_in (λ z. j z ≡ true) (u (listed s) k) (S.users (listed s) k) y h));
     lists = tt;
   }
 
@@ -270,14 +271,9 @@ module _ (s : Owned) (ix : Bool) (slots : ℕ) (j : ℕ → Bool) (u : Listing �
     pub filled_meaning : meaning_of t true u' ≡ index_on (meaning_of s ix u)
     unfolding earlier
     filled_meaning =
-        let owns : own t ≡ own s = fun_ext E.owns in
-        let texts : text t ≡ text s = fun_ext E.texts in
         let used : (k : ℕ) → u' (listed t) k ≡ flat_map (λ l. filter (λ x. has k (front (text s x))) (own s l)) literals = λ k.
-          F.uses k ∙ ap (λ (f : ℕ → List ℕ). filter (λ x. has k (front (f x))) (earlier 2048 s)) texts ∙ filter_flat (λ x. has k (front (text s x))) (own s) literals in
-        ap (λ (r : ℕ). meant r true (own t) (u' (listed t)) (text t) (length (lost t))) E.room
-        ∙ ap (λ (f : ℕ → List ℕ). meant s.room true f (u' (listed t)) (text t) (length (lost t))) owns
-        ∙ ap (λ (f : ℕ → List ℕ). meant s.room true (own s) (u' (listed t)) f (length (lost t))) texts
-        ∙ ap (λ (n : ℕ). meant s.room true (own s) (u' (listed t)) (text s) n) (ap length (E.losts ∙ (T.off off).1))
+          F.uses k ∙ ap (λ (f : ℕ → List ℕ). filter (λ x. has k (front (f x))) (earlier 2048 s)) (fun_ext E.texts) ∙ filter_flat (λ x. has k (front (text s x))) (own s) literals in
+        meaning_is t true u' s.room (own s) (u' (listed t)) (text s) 0 E.room E.owns (λ k. refl) E.texts (ap length (E.losts ∙ (T.off off).1))
         ∙ indexed_is s.room (own s) (u (listed s)) (u' (listed t)) (text s) (length (lost s)) (own_laws s).kept_so used
         ∙ ap (λ (b : Bool). index_on (meaning_of s b u)) (sym off)
 
@@ -288,9 +284,9 @@ module _ (s : Owned) (ix : Bool) (slots : ℕ) (j : ℕ → Bool) (u : Listing �
     filled_ties = record {
       kept = λ x e. let k = and_parts (has x (earlier 2048 s)) (ltb 0 (length (front (text t x)))) (sym (F.joins x) ∙ e) in let m = earlier_in s 2048 x (has_in x (earlier 2048 s) k.0) in inl (m.0, subst (In x) (sym (E.owns m.0)) m.2);
       joins = λ on l x h. let k = in_all_earlier l x h in
-          F.joins x ∙ ap (λ (b : Bool). b && ltb 0 (length (front (text t x)))) (in_has x (earlier 2048 s) k) ∙ ap (λ (D : List ℕ). ltb 0 (length D)) (sym (all_in (λ y. listed t y ≡ front (text t y)) (earlier 2048 s) x F.lists k));
+          F.joins x ∙ ap (λ (b : Bool). b && ltb 0 (length (front (text t x)))) (has_from x (earlier 2048 s) k) ∙ ap (λ (D : List ℕ). ltb 0 (length D)) (sym (all_in (λ y. listed t y ≡ front (text t y)) (earlier 2048 s) F.lists x k));
       complete = λ on l k x h. let e = in_all_earlier l x h in
-          ap (has x) (F.uses k) ∙ has_filter (λ y. has k (front (text t y))) x (earlier 2048 s) e ∙ ap (has k) (sym (all_in (λ y. listed t y ≡ front (text t y)) (earlier 2048 s) x F.lists e));
+          ap (has x) (F.uses k) ∙ has_filter (λ y. has k (front (text t y))) x (earlier 2048 s) e ∙ ap (has k) (sym (all_in (λ y. listed t y ≡ front (text t y)) (earlier 2048 s) F.lists x e));
       off = λ e. absurd (both_ways true e refl);
     }
 

@@ -4,7 +4,7 @@ use Rattle.network.specs.Clauses.{Ordered, front, well_formed}
 use Rattle.network.specs.Lists.{In}
 use Rattle.rules.proofs.Formed.{formed_parts, front_below, is_order}
 use Rattle.slotted.specs.Indexes.{MayJoin}
-use Rattle.slotted.proofs.Members.{in_all}
+use Rattle.owned.proofs.Moves.{in_all}
 
 pub front_length : (C : List ℕ) → length (front C) ≡ length C - 1
 front_length [] = refl

@@ -4,6 +4,7 @@ pub mod Asks
 pub mod Fronts
 pub mod Enters
 pub mod Offs
+pub mod Leaves
 pub mod Removes
 pub mod Retires
 pub mod Shortens

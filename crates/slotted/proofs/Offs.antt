@@ -4,15 +4,13 @@ use Rattle.std.proofs.lemmas.Bool.{both_ways, cond_both}
 use Rattle.rules.specs.Store.{index_off}
 use Rattle.rules.specs.Lawful.{Lawful}
 use Rattle.rules.proofs.Lawful.{emptied_lawful, index_off_lawful}
-use Rattle.slots.specs.Slots.{meant, ref}
-use Rattle.slots.proofs.Slots.{map_same, same_meaning}
+use Rattle.slots.proofs.Slots.{same_meaning}
 use Rattle.owned.specs.declared.owned.Owned.{Owned}
 use Rattle.owned.specs.Effects.{Freed}
 use Rattle.slotted.specs.Indexes.{Listing}
 use Rattle.owned.specs.Lists.{listed, lost, own, text}
 use Rattle.slotted.specs.Tied.{blank, meaning_of, room_in}
-use Rattle.slotted.proofs.Members.{in_all}
-use Rattle.slotted.proofs.Stands.{Facts, Ties, facts}
+use Rattle.slotted.proofs.Stands.{Facts, Ties, facts, meaning_is}
 
 -- own lists get no more room than they are to have
 pub room_few : (room links texts : ℕ) → room_in room links texts ≤ room
@@ -28,15 +26,12 @@ module _ (t : Owned) (j' : ℕ → Bool) (u' : Listing → ℕ → List ℕ) (no
     off = λ e. (none, gone);
   }
 
-  no_uses : (k : ℕ) → map (ref (own t) (text t)) (u' (listed t) k) ≡ []
-  no_uses k = ap (map (ref (own t) (text t))) (uses (listed t) k)
-
   -- no own list has a slot
   module _ (room : ℕ) (same : t.room ≡ room) (owns : (l : ℕ) → own t l ≡ []) where
     pub blank_meaning : meaning_of t false u' ≡ blank room
     blank_meaning =
-        ap (λ (r : ℕ). meant r false (own t) (u' (listed t)) (text t) (length (lost t))) same
-        ∙ same_meaning room false _ _ _ _ _ 0 (λ l. ap (map (text t)) (owns l)) no_uses (ap length gone)
+        meaning_is t false u' room (own t) (λ k. []) (text t) 0 same (λ l. refl) (uses (listed t)) (λ y. refl) (ap length gone)
+        ∙ same_meaning room false _ _ _ _ 0 0 (λ l. ap (map (text t)) (owns l)) (λ k. refl) refl
 
     pub blank_facts : (slots : ℕ) → room ≤ slots → Facts t false slots j' u'
     blank_facts slots f = facts t false slots j' u' (omega arith) off_ties (subst Lawful (sym blank_meaning) (emptied_lawful (blank room)))
@@ -46,8 +41,7 @@ module _ (t : Owned) (j' : ℕ → Bool) (u' : Listing → ℕ → List ℕ) (no
     pub off_meaning : meaning_of t false u' ≡ index_off (meaning_of s ix u)
     unfolding index_off
     off_meaning =
-        ap (λ (r : ℕ). meant r false (own t) (u' (listed t)) (text t) (length (lost t))) F.room
-        ∙ same_meaning s.room false _ _ _ _ _ 0 (λ l. ap (map (text t)) (F.owns l) ∙ map_same (text t) (text s) (own s l) (in_all (λ y. text t y ≡ text s y) (own s l) (λ y h. F.same.texts y))) no_uses (ap length gone)
+        meaning_is t false u' s.room (own s) (λ k. []) (text s) 0 F.room F.owns (uses (listed t)) F.same.texts (ap length gone)
 
     pub off_facts : Lawful (meaning_of s ix u) → (slots : ℕ) → s.room ≤ slots → Facts t false slots j' u'
     off_facts L slots f = facts t false slots j' u' (let e = F.room in omega arith) off_ties (subst Lawful (sym off_meaning) (index_off_lawful (meaning_of s ix u) L))

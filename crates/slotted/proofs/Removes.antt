@@ -1,6 +1,5 @@
 -- A clause removed from own lists and an index. Assumes nothing.
-use Rattle.std.proofs.Common.{◌≡◌, ℕ, ◌≤◌, Bool, false, cond, eqb, ltb, List, length, sym, ap, ◌∙◌, subst, inl, inr, arith}
-use mathlib.Core.Path.{fun_ext}
+use Rattle.std.proofs.Common.{◌≡◌, ℕ, ◌≤◌, Bool, false, cond, eqb, ltb, List, length, get_or, sym, refl, ap, ◌∙◌, subst, inl, inr, arith}
 use Rattle.std.proofs.lemmas.Bool.{both_ways, cases_eq}
 use Rattle.std.proofs.lemmas.List.{length-map}
 use Rattle.network.specs.Lists.{In}
@@ -9,16 +8,19 @@ use Rattle.rings.proofs.Drops.{at_here, at_else}
 use Rattle.rules.specs.Store.{removed}
 use Rattle.rules.specs.Lawful.{Lawful}
 use Rattle.rules.proofs.Lawful.{removed_lawful}
-use Rattle.slots.specs.Slots.{filled_by_last, meant}
+use Rattle.slots.specs.Slots.{filled_by_last}
 use Rattle.slots.proofs.Slots.{removed_is}
 use Rattle.owned.specs.declared.owned.Owned.{Owned}
 use Rattle.owned.specs.Effects.{Released}
 use Rattle.slotted.specs.Indexes.{Listing, Sensible}
 use Rattle.owned.specs.Lists.{At, listed, lost, own, text}
 use Rattle.slotted.specs.Tied.{meaning_of}
-use Rattle.slotted.proofs.Members.{filled_in, filled_out, has_without, in_filled, place_of}
+use Rattle.slotted.proofs.Leaves.{left_new, left_old}
+use Rattle.slotted.proofs.Members.{has_without}
+use Rattle.owned.proofs.Goes.{swap_out}
 use Rattle.owned.proofs.Laws.{own_laws}
-use Rattle.slotted.proofs.Stands.{Facts, HasSlot, Ties, facts}
+use Rattle.owned.proofs.Moves.{Out}
+use Rattle.slotted.proofs.Stands.{Facts, HasSlot, Ties, facts, meaning_is}
 
 module _ (s t : Owned) (ix : Bool) (j : ℕ → Bool) (u : Listing → ℕ → List ℕ) (S : Sensible j u) (T : Ties s ix j u) (x l i : ℕ) (a : At s x l i) (R : Released x l i s t)
     (j' : ℕ → Bool) (u' : Listing → ℕ → List ℕ) (joins : (y : ℕ) → j' y ≡ cond (eqb y x) false (j y)) (uses : (L : Listing) (k : ℕ) → u' L k ≡ without x (u L k)) where
@@ -30,33 +32,21 @@ module _ (s t : Owned) (ix : Bool) (j : ℕ → Bool) (u : Listing → ℕ → L
 
   pub removed_meaning : meaning_of t ix u' ≡ removed l i (meaning_of s ix u)
   removed_meaning =
-      let texts : text t ≡ text s = fun_ext R.same.texts in
-      ap (λ (r : ℕ). meant r ix (own t) (u' (listed t)) (text t) (length (lost t))) R.room
-      ∙ ap (λ (f : ℕ → List ℕ). meant s.room ix (own t) (u' (listed t)) f (length (lost t))) texts
-      ∙ ap (λ (ys : List ℕ). meant s.room ix (own t) (u' (listed t)) (text s) (length ys)) R.losts
-      ∙ removed_is (own s) (own t) (text s) (own_laws s).kept_so l i a.0 R.owns s.room ix (u (listed s)) (u' (listed t)) (length (lost s)) (λ k. uses_old k ∙ ap (λ (z : ℕ). without z (u (listed s) k)) (sym a.1))
+      let used : (k : ℕ) → u' (listed t) k ≡ without (get_or (own s l) i 0) (u (listed s) k) = λ k. uses_old k ∙ ap (λ (z : ℕ). without z (u (listed s) k)) (sym a.1) in
+      meaning_is t ix u' s.room (own t) (u' (listed t)) (text s) (length (lost s)) R.room (λ m. refl) (λ k. refl) R.same.texts (ap length R.losts)
+      ∙ removed_is (own s) (own t) (text s) (own_laws s).kept_so l i a.0 R.owns s.room ix (u (listed s)) (u' (listed t)) (length (lost s)) used
 
-  -- the others of an own list
+  abbrev new : List ℕ
+  new = filled_by_last 0 i (own s l)
+
+  out : Out x (own s l) new
+  out = swap_out i (own s l) x a.0 ((own_laws s).kept_so.differ l) a.1
+
   own_old : (m y : ℕ) → In y (own t m) → In y (own s m) × (y ≡ x → ⊥)
-  own_old m y h =
-      elim (cases_eq m l) [
-        | inl q ↦
-            let k : In y (filled_by_last 0 i (own s l)) = subst (In y) (R.owns m ∙ at_here (own s) l (filled_by_last 0 i (own s l)) m q) h in
-            (subst (λ (n : ℕ). In y (own s n)) (sym q) (filled_in i (own s l) a.0 y k), λ e. filled_out i (own s l) a.0 ((own_laws s).kept_so.differ l) (subst (λ (z : ℕ). In z (filled_by_last 0 i (own s l))) (e ∙ sym a.1) k))
-        | inr n ↦
-            let k : In y (own s m) = subst (In y) (R.owns m ∙ at_else (own s) l (filled_by_last 0 i (own s l)) m n) h in
-            (k, λ e. let p = place_of y (own s m) k in n (sym ((own_laws s).once x l i m p.0 a (p.1, p.2 ∙ e)).0))
-      ]
-
-  own_new : (m y : ℕ) → (y ≡ x → ⊥) → In y (own s m) → In y (own t m)
-  own_new m y n h =
-      rw (R.owns m) (elim (cases_eq m l) [
-        | inl q ↦ rw (at_here (own s) l (filled_by_last 0 i (own s l)) m q) (in_filled i (own s l) a.0 y (subst (λ (w : ℕ). In y (own s w)) q h) (λ e. n (e ∙ a.1)))
-        | inr ne ↦ rw (at_else (own s) l (filled_by_last 0 i (own s l)) m ne) h
-      ])
+  own_old = left_old s t x l i a new out R.owns
 
   slot_stays : (y : ℕ) → (y ≡ x → ⊥) → HasSlot s y → HasSlot t y
-  slot_stays y n (inl k) = inl (k.0, own_new k.0 y n k.1)
+  slot_stays y n (inl k) = inl (k.0, left_new s t x l i a new out R.owns k.0 y n k.1)
   slot_stays y n (inr k) = inr (subst (In y) (sym R.losts) k)
 
   joined_else : (y : ℕ) → (y ≡ x → ⊥) → j' y ≡ j y

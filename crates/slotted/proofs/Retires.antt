@@ -13,16 +13,17 @@ use Rattle.rules.specs.Store.{literals, retired}
 use Rattle.rules.specs.Subsume.{place_after}
 use Rattle.rules.specs.Lawful.{Lawful}
 use Rattle.rules.proofs.Lawful.{retired_lawful}
-use Rattle.slots.specs.Slots.{meant}
 use Rattle.slots.proofs.Changes.{retired_is}
 use Rattle.owned.specs.declared.owned.Owned.{Owned}
 use Rattle.owned.specs.Effects.{Retired}
 use Rattle.slotted.specs.Indexes.{Alike, Listing, Sensible}
 use Rattle.owned.specs.Lists.{At, listed, lost, own, text}
 use Rattle.slotted.specs.Tied.{meaning_of}
-use Rattle.slotted.proofs.Members.{all_in, any_low, any_nothing, dropped_in, in_dropped, none_in}
+use Rattle.slotted.proofs.Leaves.{left_new, left_old}
+use Rattle.slotted.proofs.Members.{any_low, any_nothing, none_in}
 use Rattle.owned.proofs.Laws.{own_laws}
-use Rattle.slotted.proofs.Stands.{Facts, HasSlot, Ties, at_own, facts}
+use Rattle.owned.proofs.Moves.{Out, all_in, drop_out}
+use Rattle.slotted.proofs.Stands.{Facts, HasSlot, Ties, at_own, facts, meaning_is}
 
 module _ (s t : Owned) (ix : Bool) (j : ℕ → Bool) (u : Listing → ℕ → List ℕ) (S : Sensible j u) (T : Ties s ix j u) (x l i : ℕ) (a : At s x l i) (b : Bool) (is : b ≡ (ix && ltb 0 (length (listed s x)))) (R : Retired b x l i s t) where
   listing : (y : ℕ) → listed t y ≡ listed s y
@@ -43,13 +44,13 @@ module _ (s t : Owned) (ix : Bool) (j : ℕ → Bool) (u : Listing → ℕ → L
       elim (cases_Bool ix) [
         | inl on ↦
             ap (λ (p : ℕ → Bool). list_any p literals) (fun_ext (λ k. T.complete on l k x here))
-            ∙ any_low (listed s x) (all_in _ (own s l) x ((own_laws s).literals l) here)
+            ∙ any_low (listed s x) (all_in _ (own s l) ((own_laws s).literals l) x here)
             ∙ ap (λ (c : Bool). c && ltb 0 (length (listed s x))) (sym on) ∙ sym is
         | inr off ↦ any_nothing x (u (listed s)) literals (nothing off) ∙ sym (is ∙ ap (λ (c : Bool). c && ltb 0 (length (listed s x))) off)
       ]
     where
       nothing : ix ≡ false → (k : ℕ) → u (listed s) k ≡ []
-      nothing off k = none_in (u (listed s) k) (λ y h. both_ways (j y) ((T.off off).0 y) (all_in (λ z. j z ≡ true) (u (listed s) k) y (S.users (listed s) k) h))
+      nothing off k = none_in (u (listed s) k) (λ y h. both_ways (j y) ((T.off off).0 y) (all_in (λ z. j z ≡ true) (u (listed s) k) (S.users (listed s) k) y h))
 
   losts : length (lost t) ≡ cond (list_any (λ k. has (get_or (own s l) i 0) (u (listed s) k)) literals) (suc (length (lost s))) (length (lost s))
   losts =
@@ -63,26 +64,17 @@ module _ (s t : Owned) (ix : Bool) (j : ℕ → Bool) (u : Listing → ℕ → L
 
   pub retired_meaning : meaning_of t ix u ≡ retired l i (meaning_of s ix u)
   retired_meaning =
-      let texts : text t ≡ text s = fun_ext R.same.texts in
-      let used : u (listed t) ≡ u (listed s) = fun_ext (λ k. sym (same_uses k)) in
-      ap (λ (r : ℕ). meant r ix (own t) (u (listed t)) (text t) (length (lost t))) R.room
-      ∙ ap (λ (f : ℕ → List ℕ). meant s.room ix (own t) (u (listed t)) f (length (lost t))) texts
-      ∙ ap (λ (f : ℕ → List ℕ). meant s.room ix (own t) f (text s) (length (lost t))) used
+      meaning_is t ix u s.room (own t) (u (listed s)) (text s) (length (lost t)) R.room (λ m. refl) (λ k. sym (same_uses k)) R.same.texts refl
       ∙ retired_is (own s) (text s) (own_laws s).kept_so l i a.0 (own t) R.owns s.room ix (u (listed s)) (length (lost s)) (length (lost t)) losts
 
-  own_old : (m y : ℕ) → In y (own t m) → In y (own s m)
-  own_old m y h =
-      elim (cases_eq m l) [
-        | inl q ↦ subst (λ (n : ℕ). In y (own s n)) (sym q) (dropped_in i (own s l) y (subst (In y) (R.owns m ∙ at_here (own s) l (drop_at i (own s l)) m q) h))
-        | inr n ↦ subst (In y) (R.owns m ∙ at_else (own s) l (drop_at i (own s l)) m n) h
-      ]
+  abbrev new : List ℕ
+  new = drop_at i (own s l)
 
-  own_new : (m y : ℕ) → (y ≡ x → ⊥) → In y (own s m) → In y (own t m)
-  own_new m y n h =
-      rw (R.owns m) (elim (cases_eq m l) [
-        | inl q ↦ rw (at_here (own s) l (drop_at i (own s l)) m q) (in_dropped i (own s l) y a.0 ((own_laws s).kept_so.differ l) (subst (λ (w : ℕ). In y (own s w)) q h) (λ e. n (e ∙ a.1)))
-        | inr ne ↦ rw (at_else (own s) l (drop_at i (own s l)) m ne) h
-      ])
+  out : Out x (own s l) new
+  out = drop_out i (own s l) x a.0 ((own_laws s).kept_so.differ l) a.1
+
+  own_old : (m y : ℕ) → In y (own t m) → In y (own s m)
+  own_old m y h = (left_old s t x l i a new out R.owns m y h).0
 
   lost_stays : (y : ℕ) → In y (lost s) → In y (lost t)
   lost_stays y h =
@@ -98,7 +90,7 @@ module _ (s t : Owned) (ix : Bool) (j : ℕ → Bool) (u : Listing → ℕ → L
       rw R.losts (rw (cond-true b (lost s ++ (x ∷ [])) (lost s) q) (in_right x (lost s) (x ∷ []) (inl refl)))
 
   slot_stays : (y : ℕ) → j y ≡ true → HasSlot s y → HasSlot t y
-  slot_stays y e (inl k) = elim (cases_eq y x) [ inl q ↦ inr (subst (λ (z : ℕ). In z (lost t)) (sym q) (x_lost (ap j (sym q) ∙ e))) | inr n ↦ inl (k.0, own_new k.0 y n k.1) ]
+  slot_stays y e (inl k) = elim (cases_eq y x) [ inl q ↦ inr (subst (λ (z : ℕ). In z (lost t)) (sym q) (x_lost (ap j (sym q) ∙ e))) | inr n ↦ inl (k.0, left_new s t x l i a new out R.owns k.0 y n k.1) ]
   slot_stays y e (inr k) = inr (lost_stays y k)
 
   retired_ties : Ties t ix j u

@@ -1,6 +1,5 @@
 -- A clause in own lists that loses a literal; an index keeps its uses. Assumes nothing.
-use Rattle.std.proofs.Common.{◌≡◌, ℕ, ◌≤◌, Bool, true, ◌&&◌, List, [], map, length, get_or, sym, ap, ◌∙◌, subst, inl, inr, arith}
-use mathlib.Core.Path.{fun_ext}
+use Rattle.std.proofs.Common.{◌≡◌, ℕ, ◌≤◌, Bool, true, ◌&&◌, List, [], map, length, get_or, sym, refl, ap, ◌∙◌, subst, inl, inr, arith}
 use Rattle.std.specs.List.{AllByRecursion}
 use Rattle.std.proofs.lemmas.Bool.{lt-ltb}
 use Rattle.std.proofs.lemmas.List.{get_or-map, length-map}
@@ -10,16 +9,16 @@ use Rattle.rings.proofs.Drops.{at_here, at_else}
 use Rattle.rules.specs.Store.{droppable, shortened}
 use Rattle.rules.specs.Lawful.{Lawful}
 use Rattle.rules.proofs.Lawful.{shortened_lawful}
-use Rattle.slots.specs.Slots.{meant}
 use Rattle.slots.proofs.Changes.{shortened_is}
 use Rattle.owned.specs.declared.owned.Owned.{Owned}
 use Rattle.owned.specs.Effects.{Shortened}
 use Rattle.slotted.specs.Indexes.{Alike, Listing, Sensible}
 use Rattle.owned.specs.Lists.{At, listed, lost, own, text}
 use Rattle.slotted.specs.Tied.{meaning_of}
-use Rattle.slotted.proofs.Members.{in_all, some_same}
+use Rattle.slotted.proofs.Members.{some_same}
 use Rattle.owned.proofs.Laws.{own_laws}
-use Rattle.slotted.proofs.Stands.{Facts, HasSlot, Ties, at_own, facts, own_ends}
+use Rattle.owned.proofs.Moves.{in_all}
+use Rattle.slotted.proofs.Stands.{Facts, HasSlot, Ties, at_own, facts, meaning_is, own_ends}
 
 -- which literals may be dropped
 pub droppable_is : (s : Owned) (ix : Bool) (u : Listing → ℕ → List ℕ) (x v l i : ℕ) → At s x l i → droppable (meaning_of s ix u) l i v ≡ has v (front (text s x))
@@ -47,13 +46,8 @@ module _ (s t : Owned) (ix : Bool) (j : ℕ → Bool) (u : Listing → ℕ → L
 
   pub shortened_meaning : meaning_of t ix u ≡ shortened l i v (meaning_of s ix u)
   shortened_meaning =
-      let owns : own t ≡ own s = fun_ext R.owns in
-      let used : u (listed t) ≡ u (listed s) = fun_ext (λ k. sym (same_uses k)) in
       let z = get_or (own s l) i 0 in
-      ap (λ (r : ℕ). meant r ix (own t) (u (listed t)) (text t) (length (lost t))) R.room
-      ∙ ap (λ (f : ℕ → List ℕ). meant s.room ix f (u (listed t)) (text t) (length (lost t))) owns
-      ∙ ap (λ (f : ℕ → List ℕ). meant s.room ix (own s) f (text t) (length (lost t))) used
-      ∙ ap (λ (ys : List ℕ). meant s.room ix (own s) (u (listed s)) (text t) (length ys)) R.losts
+      meaning_is t ix u s.room (own s) (u (listed s)) (text t) (length (lost s)) R.room R.owns (λ k. sym (same_uses k)) (λ y. refl) (ap length R.losts)
       ∙ shortened_is (own s) (text s) (own_laws s).kept_so l i a.0 (text t) v (R.texts z ∙ at_here (text s) x (without v (text s x)) z a.1 ∙ ap (λ (w : ℕ). without v (text s w)) (sym a.1)) (own_ends t l z (subst (λ (w : ℕ). In w (own t l)) (sym a.1) (ends a.1)))
       s.room ix (u (listed s)) (length (lost s)) (λ m. others (own s m)) (λ k. others (u (listed s) k))
 

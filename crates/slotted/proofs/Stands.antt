@@ -1,6 +1,8 @@
 -- What the facts of a store say, member by member, and how they are kept. Assumes nothing.
 use Rattle.std.proofs.Common.{◌≡◌, ℕ, ◌<◌, ◌≤◌, Bool, true, false, ◌||◌, ltb, ◌⊎◌, List, [], ◌∷◌, length, sym, ap, ◌∙◌, subst, inl, inr, arith}
 use mathlib.Core.Logic.{∥∥₁_elim}
+use mathlib.Core.Path.{fun_ext}
+use Rattle.slots.specs.Slots.{meant}
 use denote.Struct.Props.{≡_prop}
 use base.Stored.{coded_ℕ, coded_bool, coded_list}
 use Rattle.std.specs.List.{AllByRecursion, list_any}
@@ -17,7 +19,9 @@ use Rattle.slotted.specs.Indexes.{Listing}
 use Rattle.slotted.specs.Law.{Law}
 use Rattle.owned.specs.Lists.{own, lost, text, listed, At}
 use Rattle.slotted.specs.Tied.{Tied, is_kept, meaning_of}
-use Rattle.slotted.proofs.Members.{all_in, in_all, in_has, place_in}
+use Rattle.rules.proofs.Answers.{has_from}
+use Rattle.owned.proofs.Moves.{all_in, in_all}
+use Rattle.slotted.proofs.Members.{place_in}
 use Rattle.owned.proofs.Laws.{own_laws}
 
 -- ## Own lists
@@ -25,10 +29,10 @@ use Rattle.owned.proofs.Laws.{own_laws}
 -- a slot of an own list has a well formed clause, which ends in the list's literal
 module _ (o : Owned) (l x : ℕ) (h : In x (own o l)) where
   pub own_formed : well_formed (text o x) ≡ true
-  own_formed = all_in (λ y. well_formed (text o y) ≡ true) (own o l) x ((own_laws o).formed l) h
+  own_formed = all_in (λ y. well_formed (text o y) ≡ true) (own o l) ((own_laws o).formed l) x h
 
   pub own_ends : last (text o x) ≡ l
-  own_ends = all_in (λ y. last (text o y) ≡ l) (own o l) x ((own_laws o).kept_so.ends l) h
+  own_ends = all_in (λ y. last (text o y) ≡ l) (own o l) ((own_laws o).kept_so.ends l) x h
 
   pub own_low : l < 2048
   own_low = let a = (formed_parts (text o x) own_formed).small in let b = own_ends in omega arith
@@ -50,8 +54,8 @@ has_slot o x e =
     ]
 
 pub slot_has : (o : Owned) (x : ℕ) → HasSlot o x → is_kept o x ≡ true
-slot_has o x (inl k) = ap (λ (b : Bool). b || has x (lost o)) (any_from (λ l. has x (own o l)) literals k.0 (in_up_to 2048 k.0 (own_low o k.0 x k.1)) (in_has x (own o k.0) k.1))
-slot_has o x (inr k) = or_right (list_any (λ l. has x (own o l)) literals) (has x (lost o)) (in_has x (lost o) k)
+slot_has o x (inl k) = ap (λ (b : Bool). b || has x (lost o)) (any_from (λ l. has x (own o l)) literals k.0 (in_up_to 2048 k.0 (own_low o k.0 x k.1)) (has_from x (own o k.0) k.1))
+slot_has o x (inr k) = or_right (list_any (λ l. has x (own o l)) literals) (has x (lost o)) (has_from x (lost o) k)
 
 -- how own lists and an index go together, member by member
 pub record Ties (o : Owned) (ix : Bool) (joined : ℕ → Bool) (used : Listing → ℕ → List ℕ) : Type 0 where
@@ -78,8 +82,8 @@ module _ {o : Owned} {ix : Bool} {joined : ℕ → Bool} {used : Listing → ℕ
       let t = ∥∥₁_elim h tied_prop (λ s. s) in
       record {
         kept = λ x e. has_slot o x (t.kept x e);
-        joins = λ e l x k. all_in (λ y. joined y ≡ ltb 0 (length (listed o y))) (own o l) x (t.joins e l) k;
-        complete = λ e l k x h. all_in (λ y. has y (used (listed o) k) ≡ has k (listed o y)) (own o l) x (t.complete e l k) h;
+        joins = λ e l x k. all_in (λ y. joined y ≡ ltb 0 (length (listed o y))) (own o l) (t.joins e l) x k;
+        complete = λ e l k x h. all_in (λ y. has y (used (listed o) k) ≡ has k (listed o y)) (own o l) (t.complete e l k) x h;
         off = t.off;
       }
 
@@ -92,6 +96,16 @@ module _ {o : Owned} {ix : Bool} {joined : ℕ → Bool} {used : Listing → ℕ
   } ∣₁
 
 -- ## The meaning
+
+-- by lists of slots that are the same
+pub meaning_is : (o : Owned) (ix : Bool) (used : Listing → ℕ → List ℕ) (room : ℕ) (own' used' text' : ℕ → List ℕ) (n : ℕ) → o.room ≡ room → ((l : ℕ) → own o l ≡ own' l) → ((k : ℕ) → used (listed o) k ≡ used' k) →
+    ((x : ℕ) → text o x ≡ text' x) → length (lost o) ≡ n → meaning_of o ix used ≡ meant room ix own' used' text' n
+meaning_is o ix used room own' used' text' n r p q e d =
+    ap (λ (m : ℕ). meant m ix (own o) (used (listed o)) (text o) (length (lost o))) r
+    ∙ ap (λ (f : ℕ → List ℕ). meant room ix f (used (listed o)) (text o) (length (lost o))) (fun_ext p)
+    ∙ ap (λ (f : ℕ → List ℕ). meant room ix own' f (text o) (length (lost o))) (fun_ext q)
+    ∙ ap (λ (f : ℕ → List ℕ). meant room ix own' used' f (length (lost o))) (fun_ext e)
+    ∙ ap (meant room ix own' used' text') d
 
 -- a lawful meaning, as a fact of the struct
 to_law : (M : Meaning) → Lawful M → ∥ Law M ∥₁
