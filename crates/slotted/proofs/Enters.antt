@@ -24,12 +24,15 @@ use Rattle.slotted.proofs.Members.{has_not, has_same, lacks_not, not_lacks}
 use Rattle.slotted.proofs.Stands.{Facts, HasSlot, Ties, facts, meaning_is}
 
 -- whether a clause may be entered
-pub fits_is : (o : Owned) (ix : Bool) (used : Listing → ℕ → List ℕ) (C : List ℕ) → (well_formed C && ltb (kept o) o.room) ≡ enterable (meaning_of o ix used) C
+fits_is : (o : Owned) (ix : Bool) (used : Listing → ℕ → List ℕ) (C : List ℕ) → (well_formed C && ltb (kept o) o.room) ≡ enterable (meaning_of o ix used) C
 fits_is o ix used C = ap (λ (n : ℕ). well_formed C && ltb (n + length (lost o)) o.room) (live_is o ix used)
 
--- what is admitted is well formed
-pub formed_now : (o : Owned) (C : List ℕ) → true ≡ (well_formed C && ltb (kept o) o.room) → well_formed C ≡ true
-formed_now o C e = (and_parts (well_formed C) (ltb (kept o) o.room) (sym e)).0
+pub fits_by : (o : Owned) (ix : Bool) (used : Listing → ℕ → List ℕ) (C : List ℕ) {b : Bool} → b ≡ (well_formed C && ltb (kept o) o.room) → b ≡ enterable (meaning_of o ix used) C
+fits_by o ix used C e = e ∙ fits_is o ix used C
+
+-- what a clause entered leaves: the facts of the store, and its meaning
+abbrev pub Entered : (s t : Owned) (ix : Bool) (u : Listing → ℕ → List ℕ) (C : List ℕ) (slots : ℕ) (j' : ℕ → Bool) (u' : Listing → ℕ → List ℕ) → Type 0
+Entered s t ix u C slots j' u' = Facts t ix slots j' u' × (meaning_of t ix u' ≡ entered C (meaning_of s ix u))
 
 -- one more at the end of a list
 pub in_more : (x y : ℕ) (b : Bool) (us : List ℕ) → (y ≡ x → ⊥) → has y (cond b (us ++ (x ∷ [])) us) ≡ has y us
@@ -41,7 +44,13 @@ in_last x true us l = has_from x (us ++ (x ∷ [])) (in_right x us (x ∷ []) (i
 in_last x false us l = has_not x us (lacks_not x us l)
 
 -- the store before, and own lists with a clause more
-module _ (s t : Owned) (ix : Bool) (j : ℕ → Bool) (u : Listing → ℕ → List ℕ) (S : Sensible j u) (T : Ties s ix j u) (x : ℕ) (C : List ℕ) (A : Admitted x C s t) (good : well_formed C ≡ true) where
+module _ (s t : Owned) (ix : Bool) (j : ℕ → Bool) (u : Listing → ℕ → List ℕ) (S : Sensible j u) (T : Ties s ix j u) (x : ℕ) (C : List ℕ) (A : Admitted x C s t) (fits : true ≡ (well_formed C && ltb (kept s) s.room)) where
+  good : well_formed C ≡ true
+  good = (and_parts (well_formed C) (ltb (kept s) s.room) (sym fits)).0
+
+  ok : enterable (meaning_of s ix u) C ≡ true
+  ok = sym (fits_by s ix u C fits)
+
   not_slot : HasSlot s x → ⊥
   not_slot (inl k) = lacks_not x (own s k.0) (A.fresh k.0) k.1
   not_slot (inr k) = lacks_not x (lost s) A.found k
@@ -142,27 +151,23 @@ module _ (s t : Owned) (ix : Bool) (j : ℕ → Bool) (u : Listing → ℕ → L
       off = λ e. (λ y. joins y ∙ sym (idle e (ltb 0 (length (front C))) y) ∙ (T.off e).0 y, A.losts ∙ (T.off e).1);
     }
 
-    entered_facts : (slots : ℕ) → s.room ≤ slots → Lawful (meaning_of s ix u) → enterable (meaning_of s ix u) C ≡ true → Facts t ix slots j' u'
-    entered_facts slots f L ok = facts t ix slots j' u' (let e = A.room in omega arith) entered_ties (subst Lawful (sym entered_meaning) (entered_lawful C (meaning_of s ix u) L ok))
+    entered_facts : (slots : ℕ) → s.room ≤ slots → Lawful (meaning_of s ix u) → Facts t ix slots j' u'
+    entered_facts slots f L = facts t ix slots j' u' (let e = A.room in omega arith) entered_ties (subst Lawful (sym entered_meaning) (entered_lawful C (meaning_of s ix u) L ok))
 
-  -- what a clause entered leaves: the facts of the store, and its meaning
-  abbrev pub Entered : ℕ → (ℕ → Bool) → (Listing → ℕ → List ℕ) → Type 0
-  Entered slots j' u' = Facts t ix slots j' u' × (meaning_of t ix u' ≡ entered C (meaning_of s ix u))
-
-  module _ (L : Lawful (meaning_of s ix u)) (ok : enterable (meaning_of s ix u) C ≡ true) (slots : ℕ) (f : s.room ≤ slots) where
+  module _ (L : Lawful (meaning_of s ix u)) (slots : ℕ) (f : s.room ≤ slots) where
     -- by what the index says of a slot that joins
     pub entered_on : ix ≡ true → (slots' : ℕ) → slots' ≡ slots → (j' : ℕ → Bool) (u' : Listing → ℕ → List ℕ) (literals : List ℕ) → literals ≡ front C →
         (MayJoin slots j x literals → (y : ℕ) → j' y ≡ cond (eqb y x) (ltb 0 (length literals)) (j y)) →
-        (MayJoin slots j x literals → listed t x ≡ literals → (k : ℕ) → u' (listed t) k ≡ cond (has k literals) (u (listed t) k ++ (x ∷ [])) (u (listed t) k)) → Entered slots' j' u'
+        (MayJoin slots j x literals → listed t x ≡ literals → (k : ℕ) → u' (listed t) k ≡ cond (has k literals) (u (listed t) k ++ (x ∷ [])) (u (listed t) k)) → Entered s t ix u C slots' j' u'
     entered_on on slots' same j' u' literals fr js us =
         let m : MayJoin slots j x literals = subst (MayJoin slots j x) (sym fr) (joins_at slots f) in
         let joins : (y : ℕ) → j' y ≡ cond (eqb y x) (ix && ltb 0 (length (front C))) (j y) = λ y. js m y ∙ ap (λ (D : List ℕ). cond (eqb y x) (ltb 0 (length D)) (j y)) fr ∙ ap (λ (b : Bool). cond (eqb y x) (b && ltb 0 (length (front C))) (j y)) (sym on) in
         let uses : (k : ℕ) → u' (listed t) k ≡ cond (ix && has k (front C)) (u (listed t) k ++ (x ∷ [])) (u (listed t) k) = λ k.
-            us m (here ∙ sym fr) k ∙ ap (λ (D : List ℕ). cond (has k D) (u (listed t) k ++ (x ∷ [])) (u (listed t) k)) fr ∙ ap (λ (b : Bool). cond (b && has k (front C)) (u (listed t) k ++ (x ∷ [])) (u (listed t) k)) (sym on) in
-        (entered_facts j' u' joins uses slots' (omega arith) L ok, entered_meaning j' u' joins uses)
+        us m (here ∙ sym fr) k ∙ ap (λ (D : List ℕ). cond (has k D) (u (listed t) k ++ (x ∷ [])) (u (listed t) k)) fr ∙ ap (λ (b : Bool). cond (b && has k (front C)) (u (listed t) k ++ (x ∷ [])) (u (listed t) k)) (sym on) in
+        (entered_facts j' u' joins uses slots' (omega arith) L, entered_meaning j' u' joins uses)
 
     -- with no index
-    pub entered_off : ix ≡ false → Entered slots j u
+    pub entered_off : ix ≡ false → Entered s t ix u C slots j u
     entered_off off =
         let uses : (k : ℕ) → u (listed t) k ≡ cond (ix && has k (front C)) (u (listed t) k ++ (x ∷ [])) (u (listed t) k) = λ k. ap (λ (b : Bool). cond (b && has k (front C)) (u (listed t) k ++ (x ∷ [])) (u (listed t) k)) (sym off) in
-        (entered_facts j u (idle off (ltb 0 (length (front C)))) uses slots f L ok, entered_meaning j u (idle off (ltb 0 (length (front C)))) uses)
+        (entered_facts j u (idle off (ltb 0 (length (front C)))) uses slots f L, entered_meaning j u (idle off (ltb 0 (length (front C)))) uses)

@@ -224,7 +224,7 @@ module _ (s o t : Owned) (l slots : ℕ) (j : ℕ → Bool) (u : Listing → ℕ
         let f = filled_push (earlier l s ++ take i (own s l)) o t slots j u S a.filled x R not_yet (all_in _ (own o l) ((own_laws o).owned_slots l) x h) (own_formed o l x h) slots' j' u' lits fr same js us in
         let e : suc i ≡ i + 1 = omega arith in
         let more : (earlier l s ++ take i (own s l)) ++ (x ∷ []) ≡ earlier l s ++ take (i + 1) (own s l) =
-          append_assoc (earlier l s) (take i (own s l)) (x ∷ []) ∙ ap (λ (ys : List ℕ). earlier l s ++ ys) (ap (λ (z : ℕ). take i (own s l) ++ (z ∷ [])) (sym a.stands.1) ∙ sym (take-suc (own s l) i 0 a.stands.0) ∙ ap (λ (n : ℕ). take n (own s l)) e) in
+        append_assoc (earlier l s) (take i (own s l)) (x ∷ []) ∙ ap (λ (ys : List ℕ). earlier l s ++ ys) (ap (λ (z : ℕ). take i (own s l) ++ (z ∷ [])) (sym a.stands.1) ∙ sym (take-suc (own s l) i 0 a.stands.0) ∙ ap (λ (n : ℕ). take n (own s l)) e) in
         record {
           place = i + 1;
           stands = st;
@@ -272,7 +272,7 @@ module _ (s : Owned) (ix : Bool) (slots : ℕ) (j : ℕ → Bool) (u : Listing �
     unfolding earlier
     filled_meaning =
         let used : (k : ℕ) → u' (listed t) k ≡ flat_map (λ l. filter (λ x. has k (front (text s x))) (own s l)) literals = λ k.
-          F.uses k ∙ ap (λ (f : ℕ → List ℕ). filter (λ x. has k (front (f x))) (earlier 2048 s)) (fun_ext E.texts) ∙ filter_flat (λ x. has k (front (text s x))) (own s) literals in
+        F.uses k ∙ ap (λ (f : ℕ → List ℕ). filter (λ x. has k (front (f x))) (earlier 2048 s)) (fun_ext E.texts) ∙ filter_flat (λ x. has k (front (text s x))) (own s) literals in
         meaning_is t true u' s.room (own s) (u' (listed t)) (text s) 0 E.room E.owns (λ k. refl) E.texts (ap length (E.losts ∙ (T.off off).1))
         ∙ indexed_is s.room (own s) (u (listed s)) (u' (listed t)) (text s) (length (lost s)) (own_laws s).kept_so used
         ∙ ap (λ (b : Bool). index_on (meaning_of s b u)) (sym off)

@@ -21,12 +21,15 @@ use Rattle.owned.proofs.Moves.{in_all}
 use Rattle.slotted.proofs.Stands.{Facts, HasSlot, Ties, at_own, facts, meaning_is, own_ends}
 
 -- which literals may be dropped
-pub droppable_is : (s : Owned) (ix : Bool) (u : Listing → ℕ → List ℕ) (x v l i : ℕ) → At s x l i → droppable (meaning_of s ix u) l i v ≡ has v (front (text s x))
+droppable_is : (s : Owned) (ix : Bool) (u : Listing → ℕ → List ℕ) (x v l i : ℕ) → At s x l i → droppable (meaning_of s ix u) l i v ≡ has v (front (text s x))
 droppable_is s ix u x v l i a =
     let p = a.0 in
     let n = length-map (own s l) (text s) in
     let e : get_or (map (text s) (own s l)) i [] ≡ text s x = get_or-map (text s) (own s l) i 0 [] a.0 ∙ ap (text s) a.1 in
     ap (λ (b : Bool). b && has v (front (get_or (map (text s) (own s l)) i []))) (lt-ltb i (length (map (text s) (own s l))) (omega arith)) ∙ ap (λ (C : List ℕ). has v (front C)) e
+
+pub droppable_by : (s : Owned) (ix : Bool) (u : Listing → ℕ → List ℕ) (x v l i : ℕ) → At s x l i → {b : Bool} → b ≡ has v (front (text s x)) → b ≡ true → droppable (meaning_of s ix u) l i v ≡ true
+droppable_by s ix u x v l i a e t = droppable_is s ix u x v l i a ∙ sym e ∙ t
 
 module _ (s t : Owned) (ix : Bool) (j : ℕ → Bool) (u : Listing → ℕ → List ℕ) (S : Sensible j u) (T : Ties s ix j u) (x v l i : ℕ) (a : At s x l i) (R : Shortened x v s t) where
   pub shortened_alike : Alike j (listed s) (listed t)
@@ -38,8 +41,8 @@ module _ (s t : Owned) (ix : Bool) (j : ℕ → Bool) (u : Listing → ℕ → L
   own_old : (m y : ℕ) → In y (own t m) → In y (own s m)
   own_old m y = subst (In y) (R.owns m)
 
-  ends : get_or (own s l) i 0 ≡ x → In x (own t l)
-  ends e = subst (In x) (sym (R.owns l)) (at_own s x l i a)
+  here : In x (own t l)
+  here = subst (In x) (sym (R.owns l)) (at_own s x l i a)
 
   others : (ys : List ℕ) → AllByRecursion (λ y. (y ≡ get_or (own s l) i 0 → ⊥) → text t y ≡ text s y) ys
   others ys = in_all (λ y. (y ≡ get_or (own s l) i 0 → ⊥) → text t y ≡ text s y) ys (λ y h n. R.texts y ∙ at_else (text s) x (without v (text s x)) y (λ q. n (q ∙ sym a.1)))
@@ -48,7 +51,7 @@ module _ (s t : Owned) (ix : Bool) (j : ℕ → Bool) (u : Listing → ℕ → L
   shortened_meaning =
       let z = get_or (own s l) i 0 in
       meaning_is t ix u s.room (own s) (u (listed s)) (text t) (length (lost s)) R.room R.owns (λ k. sym (same_uses k)) (λ y. refl) (ap length R.losts)
-      ∙ shortened_is (own s) (text s) (own_laws s).kept_so l i a.0 (text t) v (R.texts z ∙ at_here (text s) x (without v (text s x)) z a.1 ∙ ap (λ (w : ℕ). without v (text s w)) (sym a.1)) (own_ends t l z (subst (λ (w : ℕ). In w (own t l)) (sym a.1) (ends a.1)))
+      ∙ shortened_is (own s) (text s) (own_laws s).kept_so l i a.0 (text t) v (R.texts z ∙ at_here (text s) x (without v (text s x)) z a.1 ∙ ap (λ (w : ℕ). without v (text s w)) (sym a.1)) (own_ends t l z (subst (λ (w : ℕ). In w (own t l)) (sym a.1) here))
       s.room ix (u (listed s)) (length (lost s)) (λ m. others (own s m)) (λ k. others (u (listed s) k))
 
   slot_stays : (y : ℕ) → HasSlot s y → HasSlot t y

@@ -3,8 +3,8 @@ ghost use Rattle.owned.specs.Lists.{At};
 ghost use Rattle.slotted.specs.Tied.{blank, meaning_of, room_in};
 
 use crate::index::Index;
-use owned::owned::Owned;
 use crate::slotted::Slotted;
+use owned::owned::Owned;
 use store::lists::Lists;
 
 impl<'a, I: Index> Slotted<'a, I> {

@@ -3,8 +3,8 @@ ghost use Rattle.owned.specs.Lists.{listed};
 
 use crate::fill::fill;
 use crate::index::Index;
-use owned::owned::Owned;
 use crate::slotted::Slotted;
+use owned::owned::Owned;
 use store::lists::Lists;
 use store::store::Store;
 
@@ -31,6 +31,7 @@ impl<I: Index> Store for Slotted<'_, I> {
 
     fn user(&self, u: I::Use) -> Option<I::Handle> {
         let x = self.index.slot(u);
+        // A slot that no own list has is lost.
         self.own.home(x)?;
         Some(I::handle(x))
     }
@@ -48,6 +49,7 @@ impl<I: Index> Store for Slotted<'_, I> {
 
     fn retire_at(&mut self, h: I::Handle) -> Option<Option<I::Handle>> {
         let x = I::named(h);
+        // While an index stands, a slot is used where it is listed.
         let used = self.indexed && self.own.is_listed(x);
         let own = &mut self.own;
         let Some(y) = own.retire(x, used)? else {

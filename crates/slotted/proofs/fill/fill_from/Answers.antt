@@ -15,7 +15,6 @@ loop-at-init g c = let o = c.args.own.now in along_start o c.args.l (g.I.Index.s
 here : (g : Over) (c : After-next-at g) → Along c.args.own.now c.loop-at.own c.args.l (g.I.Index.slots c.loop-at.index) (g.I.Index.joined c.loop-at.index) (g.I.Index.used c.loop-at.index) (Some c.in-Some.x)
 here g c = subst (Along c.args.own.now c.loop-at.own c.args.l (g.I.Index.slots c.loop-at.index) (g.I.Index.joined c.loop-at.index) (g.I.Index.used c.loop-at.index)) c.in-Some.is c.loop-at.invariant
 
-
 relisted : (g : Over) (c : After-next-at g) → Relisted c.in-Some.x c.loop-at.own c.relist.new.self
 relisted g c = let a = here g c in c.relist.ensures.makes c.args.l a.place (stands_at c.args.own.now c.loop-at.own c.relist.new.self c.args.l _ _ _ (g.met.I.Index.sensible c.loop-at.index) c.in-Some.x a)
 

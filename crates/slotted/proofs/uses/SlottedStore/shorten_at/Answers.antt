@@ -5,7 +5,7 @@ use Rattle.slotted.specs.Facts.{law}
 use Rattle.owned.specs.Lists.{At, listed}
 use Rattle.slotted.specs.Tied.{meaning_of}
 use Rattle.slotted.proofs.Asks.{stands_or}
-use Rattle.slotted.proofs.Shortens.{droppable_is, shortened_alike, shortened_facts, shortened_meaning}
+use Rattle.slotted.proofs.Shortens.{droppable_by, shortened_alike, shortened_facts, shortened_meaning}
 use Rattle.slotted.proofs.Stands.{facts_stay, ties}
 use Rattle.slotted.proofs.uses.SlottedStore.shorten_at.Goals as goal
 
@@ -17,7 +17,7 @@ invariant_of-self g c =
       | inl t ↦ elim (stands_or s.own c.named.result) [
         | inl p ↦
             shortened_facts s.own c.shorten.new.self s.indexed (g.I.Index.joined s.index) u (g.met.I.Index.sensible s.index) (ties s.tied) c.named.result c.args.x p.0 p.1 p.2 (c.shorten.ensures.makes t)
-            (law (meaning_of s.own s.indexed u) s.law) (droppable_is s.own s.indexed u c.named.result c.args.x p.0 p.1 p.2 ∙ sym (c.shorten.ensures.when p.0 p.1 p.2) ∙ t) (g.I.Index.slots s.index) s.fits
+            (law (meaning_of s.own s.indexed u) s.law) (droppable_by s.own s.indexed u c.named.result c.args.x p.0 p.1 p.2 (c.shorten.ensures.when p.0 p.1 p.2) t) (g.I.Index.slots s.index) s.fits
         | inr n ↦ absurd (both_ways c.shorten.result (c.shorten.ensures.absent n).0 t)
       ]
       | inr f ↦ facts_stay (c.shorten.ensures.no f) (record { fits = s.fits; tied = s.tied; law = s.law })
