@@ -1,0 +1,4 @@
+pub mod Totals
+pub mod Layout
+pub mod Lists
+pub mod Effects

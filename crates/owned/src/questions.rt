@@ -1,0 +1,110 @@
+ghost use Rattle.std.specs.Prelude.{◌≡◌, ℕ, ◌+◌, ◌<◌, ◌≤◌, [], false, true, not, length, Some, None, nat_lt};
+ghost use Rattle.network.specs.Clauses.{has};
+ghost use Rattle.owned.specs.Lists.{At, listed, own, text};
+ghost use Rattle.owned.specs.Totals.{total};
+
+use crate::owned::Owned;
+use crate::words::{HEADS, LITERALS, text_at};
+use rings::after;
+
+impl Owned<'_> {
+    // How many clauses can be kept.
+    pub fn room(&self) -> u32
+        ensures { result ≡ self.now.room }
+    {
+        self.room
+    }
+
+    // How many clauses own lists have.
+    pub fn live(&self) -> u32
+        ensures { result ≡ total 2048 (λ l. length (own self.now l)) }
+    {
+        self.live
+    }
+
+    // How many slots the own list of l has.
+    pub fn own_len(&self, l: u32) -> u32
+        ensures { result ≡ length (own self.now l) }
+    {
+        self.own(l).count() as u32
+    }
+
+    // The first slot of the own list of l.
+    pub fn first(&self, l: u32) -> Option<u32>
+        ensures { elim result [ None ↦ length (own self.now l) ≡ 0 | Some x ↦ At self.now x l 0 ] }
+    {
+        self.own(l).next()
+    }
+
+    // The slot after x in its own list.
+    pub fn next(&self, x: u32) -> Option<u32>
+        ensures { (l i : ℕ) → At self.now x l i → elim result [ None ↦ length (own self.now l) ≡ i + 1 | Some y ↦ At self.now y l (i + 1) ] }
+    {
+        after(self.links, HEADS, x)
+    }
+
+    // The slot at place i of the own list of l.
+    pub fn nth(&self, l: u32, i: u32) -> Option<u32>
+        ensures { elim result [ None ↦ length (own self.now l) ≤ i | Some x ↦ At self.now x l i ] }
+    {
+        self.own(l).nth(i as usize)
+    }
+
+    // The literal in whose own list slot x stands.
+    pub fn home(&self, x: u32) -> Option<u32>
+        ensures { elim result [ None ↦ (l i : ℕ) → At self.now x l i → ⊥ | Some l ↦ ((i : ℕ) × At self.now x l i) ] }
+    {
+        if x < HEADS {
+            return None;
+        }
+        let l = *self.texts.get(text_at(x))?;
+        if l < LITERALS { Some(l) } else { None }
+    }
+
+    // The literal in whose own list slot x stands, and its place there.
+    pub fn standing(&self, x: u32) -> Option<(u32, u32)>
+        ensures { (l i : ℕ) → At self.now x l i → result ≡ Some (l, i) }
+    {
+        let mut at = x;
+        for i in 0..self.room {
+            let y = *self.links.get(2 * at as usize + 1)?;
+            if y < HEADS {
+                return Some((y, i));
+            }
+            at = y;
+        }
+        None
+    }
+
+    // The clause in slot x.
+    pub fn text(&self, x: u32) -> &[u32]
+        ensures { (l i : ℕ) → At self.now x l i → result.now ≡ text self.now x }
+    {
+        let b = text_at(x);
+        let n = self.texts.get(b + 1).copied().unwrap_or(0) as usize;
+        self.texts.get(b + 3..b + 3 + n).unwrap_or(&[])
+    }
+
+    // Whether uses may have slot x at a literal.
+    pub fn is_listed(&self, x: u32) -> bool
+        ensures { (l i : ℕ) → At self.now x l i → result ≡ nat_lt 0 (length (listed self.now x)) }
+    {
+        self.texts.get(text_at(x) + 2).copied().unwrap_or(0) > 1
+    }
+
+    // Whether uses may have slot x at the literal k.
+    pub fn lists(&self, x: u32, k: u32) -> bool
+        ensures { result ≡ has k (listed self.now x) }
+    {
+        if x < HEADS {
+            return false;
+        }
+        let b = text_at(x);
+        let [_, n, m, literals @ ..] = self.texts.get(b..).unwrap_or(&[]) else {
+            return false;
+        };
+        let n = *n as usize;
+        let m = (*m as usize).min(literals.len());
+        (0..m).any(|i| i + 1 != n && literals[i] == k)
+    }
+}
