@@ -1,2 +1,3 @@
 pub mod Totals
 pub mod Wholes
+pub mod Texts
