@@ -1,3 +1,4 @@
 pub mod Totals
 pub mod Wholes
 pub mod Texts
+pub mod Moves

@@ -34,7 +34,7 @@ module _ (old new : List ℕ) (y : ℕ) (l : length new ≡ length old) (b : Bod
       let z1 = z.1 in
       let n = get_or old (text_at y + 1) 0 in
       let e : take (get_or new (text_at y + 1) 0) (drop (text_at y + 3) new) ≡ take n (drop (text_at y + 3) old) =
-          ap (λ (n : ℕ). take n (drop (text_at y + 3) new)) (b (text_at y + 1) (omega arith) (omega arith)) ∙ part_same old new (text_at y + 3) n l (λ k p q. b k (omega arith) (omega arith)) in
+      ap (λ (n : ℕ). take n (drop (text_at y + 3) new)) (b (text_at y + 1) (omega arith) (omega arith)) ∙ part_same old new (text_at y + 3) n l (λ k p q. b k (omega arith) (omega arith)) in
       ap (λ (c : List ℕ). cond (leb 2050 y) c []) e
 
   pub lost_same : Sized old y → lost_in new y ≡ lost_in old y
@@ -43,7 +43,7 @@ module _ (old new : List ℕ) (y : ℕ) (l : length new ≡ length old) (b : Bod
       let z1 = z.1 in
       let m = get_or old (text_at y + 2) 0 in
       let e : take (get_or new (text_at y + 2) 0) (drop (text_at y + 3) new) ≡ take m (drop (text_at y + 3) old) =
-          ap (λ (n : ℕ). take n (drop (text_at y + 3) new)) (b (text_at y + 2) (omega arith) (omega arith)) ∙ part_same old new (text_at y + 3) m l (λ k p q. b k (omega arith) (omega arith)) in
+      ap (λ (n : ℕ). take n (drop (text_at y + 3) new)) (b (text_at y + 2) (omega arith) (omega arith)) ∙ part_same old new (text_at y + 3) m l (λ k p q. b k (omega arith) (omega arith)) in
       let n = b (text_at y + 1) (omega arith) (omega arith) in
       ap (λ (k : ℕ). cond (leb 2050 y) (drop k (take (get_or new (text_at y + 2) 0) (drop (text_at y + 3) new))) []) n ∙ ap (λ (c : List ℕ). cond (leb 2050 y) (drop (get_or old (text_at y + 1) 0) c) []) e
 
