@@ -2,3 +2,5 @@ pub mod Totals
 pub mod Wholes
 pub mod Texts
 pub mod Moves
+pub mod Forms
+pub mod Stands

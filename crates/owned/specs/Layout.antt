@@ -2,9 +2,9 @@
 -- Heads of rings: own lists at 0 to 2047, the free slots at 2048, the lost ones at 2049. Slot x of `room` slots is the node x, from 2050 on.
 -- It has 35 words of its own: the head of its ring, the length of its clause, the length of that with what it lost, then its literals, and
 -- behind them those that it lost.
-use Rattle.std.specs.Prelude.{◌≡◌, ℕ, ◌+◌, ◌-◌, ◌*◌, ◌<◌, ◌≤◌, Bool, true, false, cond, ◌&&◌, List, [], ◌∷◌, ◌++◌, length, take, drop, nat_lt, nat_le, slice_index, slice_index_or}
+use Rattle.std.specs.Prelude.{◌≡◌, ℕ, ◌+◌, ◌-◌, ◌*◌, ◌<◌, ◌≤◌, ◌≢◌, true, cond, ◌&&◌, List, [], ◌∷◌, ◌++◌, length, take, drop, nat_lt, nat_le, slice_index, slice_index_or}
 use Rattle.std.specs.List.{AllByRecursion}
-use Rattle.rings.specs.Rings.{ring, Held}
+use Rattle.rings.specs.Rings.{ring, next, Held}
 use Rattle.network.specs.Clauses.{front, has, last, well_formed}
 use Rattle.owned.specs.Totals.{total}
 
@@ -70,3 +70,28 @@ pub record Written (old new : List ℕ) (b : ℕ) (C : List ℕ) : Type 0 where
   pub text : take (length C) (drop (b + 3) new) ≡ C
   pub low : (k : ℕ) → k < b → slice_index new k ≡ slice_index old k
   pub high : (k : ℕ) → b + 35 ≤ k → slice_index new k ≡ slice_index old k
+
+-- the first i slots are free, with no text, and all other nodes stand alone
+pub record Filled (room : ℕ) (links texts : List ℕ) (i : ℕ) : Type 0 where
+  pub long : 2 * node_count room ≤ length links
+  pub held : Held 2050 (node_count room) links
+  pub others : (l : ℕ) → l < 2050 → (l ≢ 2048) → rg room links l ≡ []
+  pub sized : length (rg room links 2048) ≡ i
+  pub low : AllByRecursion (λ x. x < 2050 + i) (rg room links 2048)
+  pub free : (x : ℕ) → 2050 ≤ x → x < 2050 + i → has x (rg room links 2048) ≡ true
+  pub alone : (n : ℕ) → 2050 + i ≤ n → n < node_count room → next links n ≡ n
+  pub names : (x : ℕ) → 2050 ≤ x → x < 2050 + i → home texts x ≡ 2048
+  pub sizes : (x : ℕ) → 2050 ≤ x → x < 2050 + i → (slice_index texts (text_at x + 1) ≡ 0) × (slice_index texts (text_at x + 2) ≡ 0)
+
+-- words whose own lists stand, with no slot owned or lost
+pub record Cleared (room : ℕ) (links texts : List ℕ) : Type 0 where
+  pub sound : Sound room links texts
+  pub owns : (l : ℕ) → own_at room links l ≡ []
+  pub losts : lost_at room links ≡ []
+
+-- the own lists and the texts stay
+pub record Kin (room : ℕ) (links texts links' texts' : List ℕ) : Type 0 where
+  pub long : length texts' ≡ length texts
+  pub owns : (l : ℕ) → l < 2048 → rg room links' l ≡ rg room links l
+  pub clauses : (x : ℕ) → clause_in texts' x ≡ clause_in texts x
+  pub losts : (x : ℕ) → lost_in texts' x ≡ lost_in texts x

@@ -138,7 +138,7 @@ impl<'a> Owned<'a> {
     pub fn free_lost(&mut self)
         ensures { Freed self.old self.new }
     {
-        free_all(&mut *self.links, &mut *self.texts);
+        free_all(&mut *self.links, &mut *self.texts, self.room);
     }
 
     // Takes every clause out.

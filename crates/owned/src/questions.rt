@@ -78,8 +78,11 @@ impl Owned<'_> {
 
     // The clause in slot x.
     pub fn text(&self, x: u32) -> &[u32]
-        ensures { (l i : ℕ) → At self.now x l i → result.now ≡ text self.now x }
+        ensures { result.now ≡ text self.now x }
     {
+        if x < HEADS {
+            return &[];
+        }
         let b = text_at(x);
         let n = self.texts.get(b + 1).copied().unwrap_or(0) as usize;
         self.texts.get(b + 3..b + 3 + n).unwrap_or(&[])

@@ -1,6 +1,6 @@
-ghost use Rattle.std.specs.Prelude.{◌≡◌, ◌+◌, ◌*◌, ◌≤◌, ◌<◌, length};
+ghost use Rattle.std.specs.Prelude.{◌≡◌, ◌+◌, ◌*◌, ◌≤◌, ◌<◌, [], length};
 ghost use Rattle.network.specs.Clauses.{well_formed};
-ghost use Rattle.owned.specs.Layout.{text_at, Written};
+ghost use Rattle.owned.specs.Layout.{Cleared, Kin, Sound, Written, lost_at, node_count, text_at};
 
 use image::shape::{ClauseTest, InOrder};
 use rings::{after, link, scatter, shift};
@@ -51,9 +51,11 @@ pub(crate) fn well_formed(c: &[u32]) -> bool
     }
 }
 
-// Each slot free, and every own list without a slot.
+// Each slot free and without a text, and every own list without a slot.
 pub(crate) fn clear(links: &mut [u32], texts: &mut [u32], room: u32)
-    requires { (room ≤ 4096) × (length texts.old ≡ 35 * room) }
+    requires { (room ≤ 4096) × (length texts.old ≡ 35 * room) × (0 < room → 2 * node_count room ≤ length links.old) }
+    ensures cleared { Cleared room links.new texts.new }
+    ensures long { length texts.new ≡ length texts.old }
 {
     if room == 0 {
         return;
@@ -61,14 +63,23 @@ pub(crate) fn clear(links: &mut [u32], texts: &mut [u32], room: u32)
     scatter(links, HEADS + room);
     for i in 0..room {
         link(links, FREE, HEADS + i);
-        texts[SLOT * i as usize] = FREE;
+        let b = SLOT * i as usize;
+        texts[b] = FREE;
+        texts[b + 1] = 0;
+        texts[b + 2] = 0;
     }
 }
 
 // Frees every lost slot.
-pub(crate) fn free_all(links: &mut [u32], texts: &mut [u32])
-    requires { (length texts.old ≡ length texts.old) }
+pub(crate) fn free_all(links: &mut [u32], texts: &mut [u32], room: u32)
+    requires { Sound room links.old texts.old × (length texts.old ≡ 35 * room) }
+    ensures sound { Sound room links.new texts.new }
+    ensures kin { Kin room links.old texts.old links.new texts.new }
+    ensures none { lost_at room links.new ≡ [] }
 {
+    if room == 0 {
+        return;
+    }
     while let Some(x) = after(links, HEADS, LOST) {
         shift(links, FREE, x);
         texts[text_at(x)] = FREE;
