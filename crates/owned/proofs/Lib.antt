@@ -4,3 +4,4 @@ pub mod Texts
 pub mod Moves
 pub mod Forms
 pub mod Stands
+pub mod Asks

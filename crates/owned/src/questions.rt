@@ -63,8 +63,10 @@ impl Owned<'_> {
 
     // The literal in whose own list slot x stands, and its place there.
     pub fn standing(&self, x: u32) -> Option<(u32, u32)>
-        ensures { (l i : ℕ) → At self.now x l i → result ≡ Some (l, i) }
+        ensures stands { (l i : ℕ) → At self.now x l i → result ≡ Some (l, i) }
+        ensures absent { ((l i : ℕ) → At self.now x l i → ⊥) → result ≡ None }
     {
+        self.home(x)?;
         let mut at = x;
         for i in 0..self.room {
             let y = *self.links.get(2 * at as usize + 1)?;
