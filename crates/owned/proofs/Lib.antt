@@ -5,6 +5,7 @@ pub mod Retires
 pub mod Releases
 pub mod Admits
 pub mod Rewrites
+pub mod Relists
 pub mod Totals
 pub mod Wholes
 pub mod Texts

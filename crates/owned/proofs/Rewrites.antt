@@ -1,7 +1,7 @@
 -- The clause of a slot of an own list written anew, where it stands. Assumes nothing.
-use Rattle.std.proofs.Common.{◌≡◌, ℕ, ◌+◌, ◌*◌, ◌<◌, ◌≤◌, true, List, length, get_or, sym, refl, ap, ◌∙◌, subst, inl, inr, arith}
+use Rattle.std.proofs.Common.{◌≡◌, ℕ, ◌+◌, ◌*◌, ◌<◌, ◌≤◌, true, false, is_some, Option, Some, None, List, length, get_or, sym, refl, ap, ◌∙◌, subst, inl, inr, arith}
 use Rattle.std.specs.List.{AllByRecursion}
-use Rattle.std.proofs.lemmas.Bool.{cases_eq}
+use Rattle.std.proofs.lemmas.Bool.{both_ways, cases_eq}
 use Rattle.rings.proofs.Shifts.{rings_apart, slot_at}
 use Rattle.network.specs.Clauses.{last, well_formed}
 use Rattle.network.specs.Lists.{In}
@@ -15,6 +15,14 @@ use Rattle.owned.proofs.Moves.{all_in, in_all}
 use Rattle.owned.proofs.Stands.{stands}
 use Rattle.owned.proofs.Texts.{Sized, all_sized, sized_same}
 use Rattle.owned.proofs.Wholes.{place_of}
+
+-- a slot that has a home stands in an own list
+abbrev Home : Owned → ℕ → Option ℕ → Type 0
+Home s x o = elim o [ None ↦ (l i : ℕ) → At s x l i → ⊥ | Some l ↦ ((i : ℕ) × At s x l i) ]
+
+pub home_found : (s : Owned) (x : ℕ) (o : Option ℕ) → is_some o ≡ true → Home s x o → (l : ℕ) × ((i : ℕ) × At s x l i)
+home_found s x None e h = absurd (both_ways false refl e)
+home_found s x (Some l) e h = (l, h)
 
 -- what the words of slot x of the own list of l are to say
 pub record Anew (s : Owned) (x l : ℕ) (ts : List ℕ) : Type 0 where
