@@ -116,13 +116,14 @@ impl<'a> Owned<'a> {
         if self.home(x).is_none() {
             return false;
         }
-        let b = text_at(x);
-        let n = self.texts[b + 1] as usize;
-        let ws = &mut *self.texts;
-        let literals = &mut ws[b + 3..b + 3 + n];
-        if !literals[..n - 1].contains(&k) {
+        let clause = self.text(x);
+        let n = clause.len();
+        if !clause[..n - 1].contains(&k) {
             return false;
         }
+        let b = text_at(x);
+        let ws = &mut *self.texts;
+        let literals = &mut ws[b + 3..b + 3 + n];
         let m = drop_literal(literals, Lit::from(k));
         literals[m] = k;
         ws[b + 1] = m as u32;
