@@ -1,3 +1,11 @@
+pub mod Besides
+pub mod Goes
+pub mod Leaves
+pub mod Retires
+pub mod Releases
+pub mod Admits
+pub mod Rewrites
+pub mod Relists
 pub mod Totals
 pub mod Wholes
 pub mod Texts

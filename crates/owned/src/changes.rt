@@ -2,6 +2,7 @@ ghost use Rattle.std.specs.Prelude.{◌≡◌, ℕ, suc, ◌+◌, ◌*◌, ◌<�
 ghost use Rattle.network.specs.Clauses.{front, has, well_formed};
 ghost use Rattle.owned.specs.Effects.{Admitted, Emptied, Freed, Released, Relisted, Retired, Shortened};
 ghost use Rattle.owned.specs.Lists.{At, kept, lost, own, text};
+ghost use Rattle.rings.specs.Rings.{slot_after};
 
 use crate::owned::Owned;
 use crate::words::{FREE, HEADS, LOST, SLOT, clear, free_all, text_at, well_formed, write};
@@ -38,20 +39,27 @@ impl<'a> Owned<'a> {
         if self.room == 0 || !well_formed(clause) {
             return None;
         }
+        let x = self.first_free()?;
+        let l = clause[clause.len() - 1];
         let Owned {
             links,
             texts,
             live,
             ..
         } = self;
-        let x = after(links, HEADS, FREE)?;
         let b = text_at(x);
         write(texts, b, clause);
-        let l = clause[clause.len() - 1];
         texts[b] = l;
         shift(links, l, x);
         *live += 1;
         Some(x)
+    }
+
+    // The first free slot.
+    fn first_free(&self) -> Option<u32>
+        ensures { result ≡ slot_after 2050 self.now.links.now 2048 }
+    {
+        after(self.links, HEADS, FREE)
     }
 
     // Takes slot x out of its own list, whose last slot comes to its place; x is free then. The answer is the slot that is at the place now,
@@ -83,6 +91,7 @@ impl<'a> Owned<'a> {
         ensures then { (l i : ℕ) → At self.old x l i → elim result [ None ↦ ⊥ | Some o ↦ elim o [ None ↦ length (own self.new l) ≡ i | Some y ↦ At self.new y l i ] ] }
     {
         self.home(x)?;
+        let y = self.next(x);
         let head = if used { LOST } else { FREE };
         let Owned {
             links,
@@ -90,7 +99,6 @@ impl<'a> Owned<'a> {
             live,
             ..
         } = self;
-        let y = after(links, HEADS, x);
         shift(links, head, x);
         texts[text_at(x)] = head;
         *live -= 1;
