@@ -1,5 +1,6 @@
 -- What the questions of own lists read. Assumes nothing.
-use Rattle.std.proofs.Common.{◌≡◌, ℕ, suc, ◌+◌, ◌-◌, ◌*◌, ◌<◌, ◌≤◌, cond, ltb, List, [], ◌∷◌, length, get_or, Some, None, Option, sym, ap, ◌∙◌, inl, inr, arith}
+use Rattle.std.proofs.Common.{◌≡◌, ℕ, suc, ◌+◌, ◌-◌, ◌*◌, ◌<◌, ◌≤◌, cond, ltb, List, [], ◌∷◌, length, get_or, Some, None, Option, sym, ap, ◌∙◌, subst, inl, inr, arith}
+use Rattle.std.specs.Option.{MatchOption, unwrap_or}
 use Rattle.std.proofs.lemmas.Bool.{cases_eq, cases_lt, cond-true, cond-false, lt-ltb, le-ltb}
 use Rattle.rings.specs.Rings.{next, prev, Held, slot_after}
 use Rattle.rings.proofs.Bounds.{after_slot}
@@ -106,3 +107,9 @@ module _ (s : Owned) (x : ℕ) where
 
     pub back_more : 2050 ≤ prev s.links.now y → Back s x (i + 1) (prev s.links.now y)
     back_more ge l j a = back_again l j a ge
+
+-- ## What was read, or the other value
+
+pub unwrapped : {T : Type 0} {A : Type 0} {B : T → Type 0} (o : Option T) (d r : T) → r ≡ unwrap_or o d → (P : T → Type 0) → MatchOption o A B → (A → P d) → ((x : T) → B x → P x) → P r
+unwrapped None d r e P m n f = subst P (sym e) (n m)
+unwrapped (Some x) d r e P m n f = subst P (sym e) (f x m)

@@ -13,3 +13,4 @@ pub mod Moves
 pub mod Forms
 pub mod Stands
 pub mod Asks
+pub mod Fills

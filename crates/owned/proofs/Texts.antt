@@ -1,8 +1,11 @@
 -- Texts that stay where their words stay. Assumes nothing.
-use Rattle.std.proofs.Common.{◌≡◌, ℕ, ◌+◌, ◌-◌, ◌*◌, ◌<◌, ◌≤◌, min, cond, leb, List, [], ◌++◌, length, get_or, take, drop, set, sym, refl, ap, ◌∙◌, inl, inr, arith}
-use Rattle.std.proofs.lemmas.Bool.{cond-false, cases_lt, lt-leb}
-use Rattle.std.proofs.lemmas.List.{ext_get_or, get_or_past, length-take, length-drop, get_or-take, get_or-drop, get_or-set_other, length-set}
-use Rattle.network.specs.Clauses.{front}
+use Rattle.std.proofs.Common.{◌≡◌, ℕ, suc, ◌+◌, ◌-◌, ◌*◌, ◌<◌, ◌≤◌, min, ◌||◌, cond, eqb, leb, ◌⊎◌, List, [], ◌∷◌, ◌++◌, length, length-append, get_or, take, drop, set, sym, refl, ap, ◌∙◌, inl, inr, ⊎_elim, arith}
+use Rattle.std.proofs.lemmas.Bool.{cond-true, cond-false, cases_lt, le-leb, lt-leb}
+use Rattle.std.proofs.lemmas.Bool.Decides.{nat_tests}
+use Rattle.std.proofs.lemmas.List.{ext_get_or, get_or_past, length-take, length-drop, get_or-take, get_or-drop, get_or-set_other, length-set, drop-drop, drop-take}
+use Rattle.std.proofs.lemmas.List.Folds.{list_any-append}
+use Rattle.std.specs.List.{list_any}
+use Rattle.network.specs.Clauses.{front, has}
 use Rattle.owned.specs.Layout.{text_at, home, clause_in, lost_in, listed_in, Sound}
 use Rattle.owned.proofs.Wholes.{slot_sizes}
 
@@ -93,3 +96,96 @@ module _ (texts : List ℕ) (x h : ℕ) (slot : 2050 ≤ x) where
 
   pub head_length : length (set texts (text_at x) h) ≡ length texts
   head_length = simp length-set
+
+-- ## What is read of a slot
+
+pub clause_high : (texts : List ℕ) (y : ℕ) → 2050 ≤ y → clause_in texts y ≡ take (get_or texts (text_at y + 1) 0) (drop (text_at y + 3) texts)
+unfolding clause_in
+clause_high texts y h = cond-true (leb 2050 y) _ [] (le-leb 2050 y h)
+
+pub lost_high : (texts : List ℕ) (y : ℕ) → 2050 ≤ y → lost_in texts y ≡ drop (get_or texts (text_at y + 1) 0) (take (get_or texts (text_at y + 2) 0) (drop (text_at y + 3) texts))
+unfolding lost_in
+lost_high texts y h = cond-true (leb 2050 y) _ [] (le-leb 2050 y h)
+
+module _ (room : ℕ) (links texts : List ℕ) (s : Sound room links texts) (exact : length texts ≡ 35 * room) (y : ℕ) (h : 2050 ≤ y) (b n : ℕ) (at : b ≡ text_at y) (size : n ≡ get_or texts (b + 1) 0) where
+  size' : n ≡ get_or texts (text_at y + 1) 0
+  size' = size ∙ ap (λ (k : ℕ). get_or texts (k + 1) 0) at
+
+  -- a slot whose words are not all there is past the room
+  past : (m : ℕ) → m ≤ 32 → length texts < b + 3 + m → 2050 + room ≤ y
+  past m a g = omega arith
+
+  -- the clause stands in its words
+  pub clause_read : take (b + 3 + n - (b + 3)) (drop (b + 3) texts) ≡ clause_in texts y
+  clause_read =
+      ap (λ (k : ℕ). take k (drop (b + 3) texts)) (omega arith)
+      ∙ ap (λ (k : ℕ). take n (drop (k + 3) texts)) at
+      ∙ ap (λ (k : ℕ). take k (drop (text_at y + 3) texts)) size'
+      ∙ sym (clause_high texts y h)
+
+  -- and is empty where these would end past the words
+  pub clause_past : length texts < b + 3 + n → [] ≡ clause_in texts y
+  clause_past g =
+      let z = all_sized room links texts s exact y h in
+      let z0 = z.0 in
+      let z1 = z.1 in
+      let e = size' in
+      let p = past n (omega arith) g in
+      let q = get_or_past texts (text_at y + 1) 0 (omega arith) in
+      sym (clause_high texts y h ∙ ap (λ (k : ℕ). take k (drop (text_at y + 3) texts)) q)
+
+  -- the same of what it lost
+  module _ (m : ℕ) (was : m ≡ get_or texts (b + 2) 0) where
+    was' : m ≡ get_or texts (text_at y + 2) 0
+    was' = was ∙ ap (λ (k : ℕ). get_or texts (k + 2) 0) at
+
+    le : (n ≤ m) × (m ≤ 32)
+    le = let z = all_sized room links texts s exact y h in let z0 = z.0 in let z1 = z.1 in let e = size' in let f = was' in (omega arith, omega arith)
+
+    pub lost_read : take (b + 3 + m - (b + 3 + n)) (drop (b + 3 + n) texts) ≡ lost_in texts y
+    lost_read =
+        let l0 = le.0 in
+        let d : n + (m - n) ≡ m = omega arith in
+        ap (λ (k : ℕ). take k (drop (b + 3 + n) texts)) (omega arith)
+        ∙ ap (take (m - n)) (sym (drop-drop n (b + 3) texts))
+        ∙ sym (drop-take n (m - n) (drop (b + 3) texts))
+        ∙ ap (λ (k : ℕ). drop n (take k (drop (b + 3) texts))) d
+        ∙ ap (λ (k : ℕ). drop n (take m (drop (k + 3) texts))) at
+        ∙ ap (λ (k : ℕ). drop k (take m (drop (text_at y + 3) texts))) size'
+        ∙ ap (λ (k : ℕ). drop (get_or texts (text_at y + 1) 0) (take k (drop (text_at y + 3) texts))) was'
+        ∙ sym (lost_high texts y h)
+
+    pub lost_past : (b + 3 + m < b + 3 + n) ⊎ (length texts < b + 3 + m) → [] ≡ lost_in texts y
+    lost_past g =
+        let l0 = le.0 in
+        let g2 : length texts < b + 3 + m = ⊎_elim (λ q. absurd (omega arith)) (λ q. q) g in
+        let p = past m le.1 g2 in
+        let q = get_or_past texts (text_at y + 2) 0 (omega arith) in
+        let r = get_or_past texts (text_at y + 1) 0 (omega arith) in
+        sym (lost_high texts y h ∙ ap (λ (k : ℕ). drop (get_or texts (text_at y + 1) 0) (take k (drop (text_at y + 3) texts))) q ∙ ap (λ (k : ℕ). drop k []) r)
+
+-- how the test of a list is told by the library
+pub has_same : (k : ℕ) (xs : List ℕ) → list_any (λ y. eqb y k) xs ≡ has k xs
+has_same k [] = refl
+has_same k (x ∷ xs) = let a = has_same k xs in let b : eqb x k ≡ eqb k x = grind (arith, nat_tests) in cc
+
+-- what uses have a slot at, by parts
+pub listed_has : (texts : List ℕ) (y k : ℕ) → (has k (front (clause_in texts y)) || has k (lost_in texts y)) ≡ has k (listed_in texts y)
+unfolding listed_in
+listed_has texts y k = sym (list_any-append (eqb k) (front (clause_in texts y)) (lost_in texts y))
+
+-- a list of two or more has a front
+front_length : (xs : List ℕ) → length (front xs) ≡ length xs - 1
+front_length [] = refl
+front_length (x ∷ []) = refl
+front_length (x ∷ (y ∷ ys)) = let a = front_length (y ∷ ys) in omega arith
+
+pub listed_length : (texts : List ℕ) (y : ℕ) → length (listed_in texts y) ≡ (length (clause_in texts y) - 1) + length (lost_in texts y)
+unfolding listed_in
+listed_length texts y = length-append (front (clause_in texts y)) (lost_in texts y) ∙ ap (λ (k : ℕ). k + length (lost_in texts y)) (front_length (clause_in texts y))
+
+-- the front by its length
+pub front_take : (xs : List ℕ) → take (length xs - 1) xs ≡ front xs
+front_take [] = refl
+front_take (x ∷ []) = refl
+front_take (x ∷ (y ∷ ys)) = let a = front_take (y ∷ ys) in let e : length (x ∷ (y ∷ ys)) - 1 ≡ suc (length (y ∷ ys) - 1) = omega arith in ap (λ (n : ℕ). take n (x ∷ (y ∷ ys))) e ∙ ap (λ (zs : List ℕ). x ∷ zs) a

@@ -1,10 +1,11 @@
 ghost use Rattle.std.specs.Prelude.{◌≡◌, ℕ, ◌+◌, ◌<◌, ◌≤◌, [], false, true, not, length, Some, None, nat_lt};
 ghost use Rattle.network.specs.Clauses.{has};
+ghost use Rattle.owned.specs.Layout.{lost_in};
 ghost use Rattle.owned.specs.Lists.{At, listed, own, text};
 ghost use Rattle.owned.specs.Totals.{total};
 
 use crate::owned::Owned;
-use crate::words::{HEADS, LITERALS, text_at};
+use crate::words::{HEADS, LITERALS, text_at, word};
 use rings::after;
 
 impl Owned<'_> {
@@ -86,30 +87,38 @@ impl Owned<'_> {
             return &[];
         }
         let b = text_at(x);
-        let n = self.texts.get(b + 1).copied().unwrap_or(0) as usize;
+        let n = word(self.texts, b + 1) as usize;
         self.texts.get(b + 3..b + 3 + n).unwrap_or(&[])
+    }
+
+    // The literals that the clause in slot x lost.
+    fn gone(&self, x: u32) -> &[u32]
+        ensures { result.now ≡ lost_in self.now.texts.now x }
+    {
+        if x < HEADS {
+            return &[];
+        }
+        let b = text_at(x);
+        let n = word(self.texts, b + 1) as usize;
+        let m = word(self.texts, b + 2) as usize;
+        self.texts.get(b + 3 + n..b + 3 + m).unwrap_or(&[])
     }
 
     // Whether uses may have slot x at a literal.
     pub fn is_listed(&self, x: u32) -> bool
-        ensures { (l i : ℕ) → At self.now x l i → result ≡ nat_lt 0 (length (listed self.now x)) }
+        ensures { result ≡ nat_lt 0 (length (listed self.now x)) }
     {
-        self.texts.get(text_at(x) + 2).copied().unwrap_or(0) > 1
+        self.text(x).len() > 1 || !self.gone(x).is_empty()
     }
 
     // Whether uses may have slot x at the literal k.
     pub fn lists(&self, x: u32, k: u32) -> bool
         ensures { result ≡ has k (listed self.now x) }
     {
-        if x < HEADS {
-            return false;
-        }
-        let b = text_at(x);
-        let [_, n, m, literals @ ..] = self.texts.get(b..).unwrap_or(&[]) else {
-            return false;
+        let front = match self.text(x) {
+            [front @ .., _] => front,
+            [] => &[],
         };
-        let n = *n as usize;
-        let m = (*m as usize).min(literals.len());
-        (0..m).any(|i| i + 1 != n && literals[i] == k)
+        front.contains(&k) || self.gone(x).contains(&k)
     }
 }

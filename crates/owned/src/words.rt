@@ -1,4 +1,4 @@
-ghost use Rattle.std.specs.Prelude.{◌≡◌, ◌+◌, ◌*◌, ◌≤◌, ◌<◌, [], length};
+ghost use Rattle.std.specs.Prelude.{◌≡◌, ◌+◌, ◌*◌, ◌≤◌, ◌<◌, [], length, slice_index};
 ghost use Rattle.network.specs.Clauses.{well_formed};
 ghost use Rattle.owned.specs.Layout.{Cleared, Kin, Sound, Written, lost_at, node_count, text_at};
 
@@ -28,6 +28,13 @@ pub(crate) fn text_at(x: u32) -> usize
     ensures { result ≡ text_at x }
 {
     SLOT * x.saturating_sub(HEADS) as usize
+}
+
+// The word at i; 0 past the end.
+pub(crate) fn word(words: &[u32], i: usize) -> u32
+    ensures { result ≡ slice_index words.now i }
+{
+    words.get(i).copied().unwrap_or(0)
 }
 
 // Writes a clause to the words of a slot.
