@@ -5,6 +5,8 @@ pub mod Retires
 pub mod Releases
 pub mod Admits
 pub mod Rewrites
+pub mod Shortens
+pub mod Drops
 pub mod Relists
 pub mod Totals
 pub mod Wholes
