@@ -4,9 +4,8 @@ use Rattle.std.specs.List.{AllByRecursion}
 use Rattle.std.proofs.lemmas.Bool.{cases_eq, cases_lt, cond-true, cond-false, lt-ltb, le-ltb, and_from, and_right}
 use Rattle.std.proofs.lemmas.List.{append-nil, drop-set-lt, get_or-set_other, get_or-set_same, length_push, nil_from_length}
 use Rattle.std.proofs.Math.Seq.{drop-length}
-use Rattle.std.proofs.lemmas.Option.{none-some}
 use Rattle.rings.specs.Rings.{at, drop_at, shifted, slot_after, Lacks, Place}
-use Rattle.rings.proofs.Bounds.{after_head, place_in}
+use Rattle.rings.proofs.Bounds.{place_in}
 use Rattle.rings.proofs.Drops.{at_else, at_here}
 use Rattle.network.specs.Clauses.{front, last, well_formed}
 use Rattle.rules.proofs.Formed.{Formed, formed_parts}
@@ -16,7 +15,7 @@ use Rattle.owned.specs.Layout.{node_count, rg, text_at, home, clause_in, lost_in
 use Rattle.owned.specs.Lists.{kept, lost, own, text, listed}
 use Rattle.owned.specs.Effects.{Admitted}
 use Rattle.owned.proofs.Besides.{Beside, beside_clause, beside_listed, beside_rewritten, beside_set, clause_is, lost_in_is}
-use Rattle.owned.proofs.Goes.{Went, shift_went, went_else, went_from, went_to}
+use Rattle.owned.proofs.Goes.{Went, first_none, first_some, shift_went, went_else, went_from, went_to}
 use Rattle.owned.proofs.Leaves.{Facts}
 use Rattle.owned.proofs.Moves.{moved_whole}
 use Rattle.owned.proofs.Stands.{stands}
@@ -35,22 +34,11 @@ module _ (s : Owned) (some : 0 < s.room) where
   whole : Whole s.room links s.texts.now
   whole = stands s some
 
-  first : slot_after 2050 links 2048 ≡ cond (ltb 0 (length (Q 2048))) (Some (get_or (Q 2048) 0 0)) None
-  first = after_head 2050 (node_count s.room) links whole.held 2048 (omega arith)
-
   pub free_none : None ≡ slot_after 2050 links 2048 → length (Q 2048) ≡ 0
-  free_none e =
-      elim (cases_lt 0 (length (Q 2048))) [
-        | inl lt ↦ absurd (none-some (get_or (Q 2048) 0 0) (e ∙ first ∙ cond-true (ltb 0 (length (Q 2048))) (Some (get_or (Q 2048) 0 0)) None (lt-ltb 0 (length (Q 2048)) lt)))
-        | inr ge ↦ omega arith
-      ]
+  free_none e = ap length (first_none s.room links whole.held 2048 (omega arith) e)
 
   pub free_some : (x : ℕ) → Some x ≡ slot_after 2050 links 2048 → Place 2050 (node_count s.room) links 2048 0 x
-  free_some x e =
-      elim (cases_lt 0 (length (Q 2048))) [
-        | inl lt ↦ let k = e ∙ first ∙ cond-true (ltb 0 (length (Q 2048))) (Some (get_or (Q 2048) 0 0)) None (lt-ltb 0 (length (Q 2048)) lt) in record { held = whole.held; head = omega arith; within = lt; is = cc }
-        | inr ge ↦ let k = e ∙ first ∙ cond-false (ltb 0 (length (Q 2048))) (Some (get_or (Q 2048) 0 0)) None (le-ltb 0 (length (Q 2048)) ge) in absurd (none-some x (sym k))
-      ]
+  free_some = first_some s.room links whole.held 2048 (omega arith)
 
   -- when the slots are all in use
   pub free_full : length (Q 2048) ≡ 0 → (b : Bool) → (b && ltb (kept s) s.room) ≡ false

@@ -15,6 +15,7 @@ use Rattle.rules.proofs.Answers.{has_from}
 use Rattle.owned.specs.Layout.{node_count, rg, text_at, home, own_at, Whole, Sound, Filled, Cleared}
 use Rattle.owned.specs.Totals.{total}
 use Rattle.owned.proofs.Totals.{total_none}
+use Rattle.owned.proofs.Leaves.{Facts}
 use Rattle.owned.proofs.Wholes.{own_by, lost_by}
 use Rattle.owned.proofs.Moves.{all_in, in_all}
 
@@ -137,3 +138,7 @@ bare_cleared room links texts e = record {
 -- no own list has a slot then
 pub cleared_total : (room : ℕ) (links texts : List ℕ) → Cleared room links texts → ◌≡◌ {A = ℕ} 0 (total 2048 (λ l. length (own_at room links l)))
 cleared_total room links texts c = sym (total_none 2048 (λ l. length (own_at room links l)) (λ l h. ap length (c.owns l)))
+
+-- the facts of own lists then
+pub cleared_kept : (room : ℕ) (links texts : List ℕ) → room ≤ 4096 → length texts ≡ 35 * room → Cleared room links texts → Facts room links texts 0
+cleared_kept room links texts small exact c = record { small = small; exact = exact; alive = cleared_total room links texts c; whole = ∣ c.sound ∣₁ }

@@ -1,9 +1,11 @@
 -- A slot that went from one ring to the end of another, and what its own list has then. Assumes nothing.
-use Rattle.std.proofs.Common.{◌≡◌, ℕ, suc, ◌+◌, ◌-◌, ◌*◌, ◌<◌, ◌≤◌, List, [], ◌∷◌, ◌++◌, length, get_or, sym, refl, ap, ◌∙◌, subst, inl, inr, eqb, length-set, arith}
-use Rattle.std.proofs.lemmas.Bool.{cases_eq, cases_lt, cond_both}
+use Rattle.std.proofs.Common.{◌≡◌, ℕ, suc, ◌+◌, ◌-◌, ◌*◌, ◌<◌, ◌≤◌, cond, ltb, List, [], ◌∷◌, ◌++◌, length, get_or, None, Some, sym, refl, ap, ◌∙◌, subst, inl, inr, eqb, length-set, arith}
+use Rattle.std.proofs.lemmas.Bool.{cases_eq, cases_lt, cond_both, cond-true, cond-false, lt-ltb, le-ltb}
+use Rattle.std.proofs.lemmas.List.{nil_from_length}
+use Rattle.std.proofs.lemmas.Option.{none-some}
 use Rattle.std.proofs.ByRecursion.{All-from_get_or}
-use Rattle.rings.specs.Rings.{at, cut_out, drop_at, linked, next, prev, put_in, shifted, swapped, swapped_out, unlinked, Differ, Held, Place}
-use Rattle.rings.proofs.Bounds.{place_in, put_is, ring_laws, shifted_is, swapped_is}
+use Rattle.rings.specs.Rings.{at, cut_out, slot_after, drop_at, linked, next, prev, put_in, shifted, swapped, swapped_out, unlinked, Differ, Held, Place}
+use Rattle.rings.proofs.Bounds.{after_head, place_in, put_is, ring_laws, shifted_is, swapped_is}
 use Rattle.rings.proofs.Drops.{at_else, at_here}
 use Rattle.rings.proofs.Holes.{apart_from}
 use Rattle.rings.proofs.Shifts.{moved_length, swaps}
@@ -54,6 +56,28 @@ module _ (i : ℕ) (xs : List ℕ) (x : ℕ) (h : i < length xs) (d : Differ xs)
               | inr m ↦ has_place y ys p.0 (omega arith) (swap_else 0 i xs h 0 p.0 ne (omega arith) ∙ p.1.1)
             ]);
       }
+
+-- the first slot of a ring, if it has one
+module _ (room : ℕ) (links : List ℕ) (held : Held 2050 (node_count room) links) (l : ℕ) (h : l < 2050) where
+  abbrev Q0 : List ℕ
+  Q0 = rg room links l
+
+  first : slot_after 2050 links l ≡ cond (ltb 0 (length Q0)) (Some (get_or Q0 0 0)) None
+  first = after_head 2050 (node_count room) links held l h
+
+  pub first_none : None ≡ slot_after 2050 links l → rg room links l ≡ []
+  first_none e =
+      elim (cases_lt 0 (length Q0)) [
+        | inl lt ↦ absurd (none-some (get_or Q0 0 0) (e ∙ first ∙ cond-true (ltb 0 (length Q0)) (Some (get_or Q0 0 0)) None (lt-ltb 0 (length Q0) lt)))
+        | inr ge ↦ nil_from_length Q0 (omega arith)
+      ]
+
+  pub first_some : (x : ℕ) → Some x ≡ slot_after 2050 links l → Place 2050 (node_count room) links l 0 x
+  first_some x e =
+      elim (cases_lt 0 (length Q0)) [
+        | inl lt ↦ let k = e ∙ first ∙ cond-true (ltb 0 (length Q0)) (Some (get_or Q0 0 0)) None (lt-ltb 0 (length Q0) lt) in record { held = held; head = h; within = lt; is = cc }
+        | inr ge ↦ let k = e ∙ first ∙ cond-false (ltb 0 (length Q0)) (Some (get_or Q0 0 0)) None (le-ltb 0 (length Q0) ge) in absurd (none-some x (sym k))
+      ]
 
 -- slot x went from place i of ring m, which has `left` now, to the end of ring h
 pub record Went (room : ℕ) (old new : List ℕ) (m i x : ℕ) (left : List ℕ) (h : ℕ) : Type 0 where

@@ -16,3 +16,4 @@ pub mod Forms
 pub mod Stands
 pub mod Asks
 pub mod Fills
+pub mod Frees
