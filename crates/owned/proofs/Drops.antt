@@ -59,13 +59,13 @@ module _ (k : ℕ) (C : List ℕ) (f : Formed C) (h : In k (front C)) where
   listed_kept D j =
       same_by (has j (front W ++ (k ∷ D))) (has j (front C ++ D))
       (λ t. has_from j (front C ++ D) (⊎_elim
-          (λ i. in_left j (front C) D (front_kept j i))
-          (λ i. ⊎_elim (λ e. in_left j (front C) D (subst (λ (z : ℕ). In z (front C)) (sym e) h)) (λ i. in_right j (front C) D i) i)
-          (in_cases j (front W) (k ∷ D) (has_in j (front W ++ (k ∷ D)) t))))
+      (λ i. in_left j (front C) D (front_kept j i))
+      (λ i. ⊎_elim (λ e. in_left j (front C) D (subst (λ (z : ℕ). In z (front C)) (sym e) h)) (λ i. in_right j (front C) D i) i)
+      (in_cases j (front W) (k ∷ D) (has_in j (front W ++ (k ∷ D)) t))))
       (λ t. has_from j (front W ++ (k ∷ D)) (⊎_elim
-          (λ i. elim (cases_eq j k) [ inl e ↦ in_right j (front W) (k ∷ D) (inl e) | inr n ↦ in_left j (front W) (k ∷ D) (kept_front j i n) ])
-          (λ i. in_right j (front W) (k ∷ D) (inr i))
-          (in_cases j (front C) D (has_in j (front C ++ D) t))))
+      (λ i. elim (cases_eq j k) [ inl e ↦ in_right j (front W) (k ∷ D) (inl e) | inr n ↦ in_left j (front W) (k ∷ D) (kept_front j i n) ])
+      (λ i. in_right j (front W) (k ∷ D) (inr i))
+      (in_cases j (front C) D (has_in j (front C ++ D) t))))
 
   pub dropped_small : k < 2048
   dropped_small = let a = front_below C f.order k h in let b = f.small in omega arith

@@ -30,4 +30,4 @@ returns-clause-makes c l i a =
 pub returns-clause-then : goal.returns-clause-then
 returns-clause-then c l i a =
     let e : c.if-used.head ≡ cond c.args.used 2049 2048 = elim c.if-used.branch [ then-used w ↦ w.head-is ∙ sym (cond-true c.args.used 2049 2048 w.if-used.true) | else-used w ↦ w.head-is ∙ sym (cond-false c.args.used 2049 2048 w.if-used.false) ] in
-    retired_next c.args.self.now l i c.args.x a c.args.used c.if-used.head e c.next-y.result (c.next-y.ensures l i a) c.shift.new.ws c.shift.ensures
+    retired_next c.args.self.now l i c.args.x a c.args.used c.if-used.head e c.next-y.result (c.next-y.ensures.says l i a) c.shift.new.ws c.shift.ensures
