@@ -1,7 +1,7 @@
 -- The laws of own lists. Assumes nothing.
-use Rattle.std.proofs.Common.{◌≡◌, ℕ, ◌+◌, ◌<◌, ◌≤◌, true, List, [], ◌++◌, length, get_or, sym, refl, ap, ◌∙◌, subst, inl, inr, ⊎_elim, arith}
+use Rattle.std.proofs.Common.{◌≡◌, ℕ, ◌<◌, ◌≤◌, true, List, ◌++◌, length, sym, refl, ap, ◌∙◌, subst, inl, inr, ⊎_elim, arith}
 use Rattle.std.specs.List.{AllByRecursion}
-use Rattle.std.proofs.ByRecursion.{All-from_get_or, All-get_or}
+use Rattle.std.proofs.ByRecursion.{All-from_get_or}
 use Rattle.std.proofs.lemmas.Bool.{cases_lt}
 use Rattle.rings.specs.Rings.{Differ, Lacks}
 use Rattle.rings.proofs.Shifts.{slot_at}
@@ -10,13 +10,13 @@ use Rattle.network.specs.Assignments.{node}
 use Rattle.network.specs.Clauses.{front, last, well_formed}
 use Rattle.network.specs.Lists.{In}
 use Rattle.network.proofs.Lists.{in_cases}
-use Rattle.rules.proofs.Formed.{Formed, formed_parts, front_below}
+use Rattle.rules.proofs.Formed.{formed_parts, front_below}
 use Rattle.owned.specs.Laws.{IsSlot, OwnLaws}
-use Rattle.owned.specs.Layout.{node_count, rg, clause_in, lost_in, listed_in, own_at}
-use Rattle.owned.specs.Lists.{At, kept, listed, lost, own, text}
+use Rattle.owned.specs.Layout.{node_count, rg, clause_in, lost_in, listed_in}
+use Rattle.owned.specs.Lists.{At, kept, listed, own, text}
 use Rattle.owned.specs.declared.owned.Owned.{Owned}
 use Rattle.owned.proofs.Moves.{all_in, in_all}
-use Rattle.owned.proofs.Stands.{of_room, stands}
+use Rattle.owned.proofs.Stands.{stands}
 use Rattle.owned.proofs.Totals.{total_none}
 use Rattle.owned.proofs.Wholes.{at_once, at_ring, at_room, at_literal, kept_free, kept_is, lost_bare, lost_by, own_bare, own_by, own_none, ring_lacks}
 

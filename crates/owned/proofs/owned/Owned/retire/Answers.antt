@@ -1,7 +1,6 @@
 use Rattle.std.proofs.Common.{◌≡◌, ℕ, cond, ap, sym, ◌∙◌, refl, set, arith}
 use Rattle.std.proofs.lemmas.Bool.{cond-true, cond-false}
-use Rattle.owned.specs.Layout.{text_at}
-use Rattle.owned.proofs.Leaves.{Facts, alive, inside}
+use Rattle.owned.proofs.Leaves.{alive, inside}
 use Rattle.owned.proofs.Retires.{retired, retired_kept, retired_next}
 use Rattle.owned.proofs.owned.Owned.retire.Goals as goal
 use Rattle.owned.proofs.owned.Owned.retire.Goals.{then-used, else-used}
