@@ -14,12 +14,12 @@ use Rattle.owned.specs.Totals.{total}
 use Rattle.owned.specs.Layout.{node_count, rg, text_at, home, clause_in, lost_in, listed_in, own_at, Whole, Written}
 use Rattle.owned.specs.Lists.{kept, text, listed}
 use Rattle.owned.specs.Effects.{Admitted}
-use Rattle.owned.proofs.Besides.{Beside, beside_clause, beside_listed, beside_rewritten, beside_set, clause_is, lost_in_is}
+use Rattle.owned.proofs.Besides.{Beside, beside_clause, beside_listed, beside_rewritten, beside_set}
 use Rattle.owned.proofs.Goes.{Went, first_none, first_some, shift_went, went_else, went_to}
 use Rattle.owned.proofs.Leaves.{Facts}
 use Rattle.owned.proofs.Moves.{moved_whole}
 use Rattle.owned.proofs.Stands.{stands}
-use Rattle.owned.proofs.Texts.{all_sized}
+use Rattle.owned.proofs.Texts.{all_sized, clause_is, lost_in_is}
 use Rattle.owned.proofs.Totals.{total_at}
 use Rattle.owned.proofs.Wholes.{kept_free, lost_by, lost_is, own_by, own_changed, own_total, ring_lacks}
 

@@ -13,25 +13,11 @@ use Rattle.rules.proofs.Answers.{has_from}
 use Rattle.rules.proofs.Formed.{Formed, front_below, front_dropped}
 use Rattle.rules.proofs.TakenOut.{front_in, front_or_last}
 use Rattle.rules.proofs.Verdicts.{without_length}
+use Rattle.owned.proofs.Texts.{front_take, has_same}
 
--- the literals but the last, by how many they are
-pub front_take : (C : List ℕ) → take (length C - 1) C ≡ front C
-front_take [] = refl
-front_take (x ∷ []) = refl
-front_take (x ∷ (y ∷ C)) =
-    let e : length (x ∷ (y ∷ C)) - 1 ≡ suc (length (y ∷ C) - 1) = omega arith in
-    ap (λ (n : ℕ). take n (x ∷ (y ∷ C))) e ∙ ap (λ (D : List ℕ). x ∷ D) (front_take (y ∷ C))
-
--- the test of a literal, either way round
-flip : (a b : ℕ) → eqb a b ≡ eqb b a
-flip a b = elim (cases_eq a b) [ inl e ↦ eq-eqb a b e ∙ sym (eq-eqb b a (sym e)) | inr n ↦ ne_eqb a b n ∙ sym (ne_eqb b a (λ q. n (sym q))) ]
-
-any_has : (k : ℕ) (C : List ℕ) → list_any (λ y. eqb y k) C ≡ has k C
-any_has k [] = refl
-any_has k (x ∷ C) = ap (λ (b : Bool). b || list_any (λ y. eqb y k) C) (flip x k) ∙ ap (λ (b : Bool). eqb k x || b) (any_has k C)
-
+-- whether the literals but the last have one
 pub any_front : (k : ℕ) (C : List ℕ) → list_any (λ y. eqb y k) (take (length C - 1) C) ≡ has k (front C)
-any_front k C = ap (list_any (λ y. eqb y k)) (front_take C) ∙ any_has k (front C)
+any_front k C = ap (list_any (λ y. eqb y k)) (front_take C) ∙ has_same k (front C)
 
 -- two tests that follow from each other
 same_by : (p q : Bool) → (p ≡ true → q ≡ true) → (q ≡ true → p ≡ true) → p ≡ q
