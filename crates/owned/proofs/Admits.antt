@@ -18,7 +18,7 @@ use Rattle.owned.proofs.Besides.{Beside, beside_clause, beside_listed, beside_re
 use Rattle.owned.proofs.Goes.{Went, first_none, first_some, shift_went, went_else, went_to}
 use Rattle.owned.proofs.Leaves.{Facts}
 use Rattle.owned.proofs.Moves.{moved_whole}
-use Rattle.owned.proofs.Stands.{stands}
+use Rattle.owned.proofs.Stands.{kept_few, stands}
 use Rattle.owned.proofs.Texts.{all_sized, clause_is, lost_in_is}
 use Rattle.owned.proofs.Totals.{total_at}
 use Rattle.owned.proofs.Wholes.{kept_free, lost_by, lost_is, own_by, own_changed, own_total, ring_lacks}
@@ -48,7 +48,7 @@ module _ (s : Owned) (some : 0 < s.room) where
   free_fits z b t = let k = kept_free s.room links s.texts.now (stands s) some in and_from b (ltb (kept s) s.room) t (lt-ltb (kept s) s.room (omega arith))
 
   pub live_few : s.live ≤ s.room
-  live_few = let k = kept_free s.room links s.texts.now (stands s) some in let e = s.alive in omega arith
+  live_few = let k = kept_few s in let e = s.alive in omega arith
 
   module _ (x : ℕ) (p : Place 2050 (node_count s.room) links 2048 0 x) where
     pub free_slot : (2050 ≤ x) × (x < 2050 + s.room)

@@ -2,11 +2,11 @@
 use Rattle.std.proofs.Common.{◌≡◌, ℕ, ◌+◌, ◌<◌, ◌≤◌, true, List, length, get_or, set, sym, refl, ◌∙◌, inl, inr, arith}
 use Rattle.std.proofs.lemmas.Bool.{cases_lt}
 use Rattle.std.proofs.lemmas.List.{length-set, get_or-set_other}
-use Rattle.owned.specs.Layout.{text_at, home, clause_in, lost_in, listed_in}
+use Rattle.owned.specs.Layout.{text_at, home, clause_in, lost_in, listed_in, Sized}
 use Rattle.std.specs.List.{AllByRecursion}
 use Rattle.network.specs.Clauses.{last, well_formed}
 use Rattle.owned.proofs.Moves.{Rewritten}
-use Rattle.owned.proofs.Texts.{Body, Sized, clause_low, clause_same, listed_same, lost_low, lost_same, sized_same}
+use Rattle.owned.proofs.Texts.{Body, clause_low, clause_same, listed_same, lost_low, lost_same, sized_same}
 
 -- only the words of a slot at b changed
 pub record Beside (old new : List ℕ) (b : ℕ) : Type 0 where

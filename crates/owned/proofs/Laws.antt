@@ -1,8 +1,7 @@
 -- The laws of own lists. Assumes nothing.
-use Rattle.std.proofs.Common.{◌≡◌, ℕ, ◌<◌, ◌≤◌, true, List, ◌++◌, length, sym, refl, ap, ◌∙◌, subst, inl, inr, ⊎_elim, arith}
+use Rattle.std.proofs.Common.{◌≡◌, ℕ, ◌<◌, true, List, ◌++◌, sym, refl, ◌∙◌, subst, ⊎_elim, arith}
 use Rattle.std.specs.List.{AllByRecursion}
 use Rattle.std.proofs.ByRecursion.{All-from_get_or}
-use Rattle.std.proofs.lemmas.Bool.{cases_lt}
 use Rattle.rings.specs.Rings.{Differ, Lacks}
 use Rattle.rings.proofs.Shifts.{slot_at}
 use Rattle.rings.proofs.Words.{ring_differ}
@@ -13,12 +12,11 @@ use Rattle.network.proofs.Lists.{in_cases}
 use Rattle.rules.proofs.Formed.{formed_parts, front_below}
 use Rattle.owned.specs.Laws.{IsSlot, OwnLaws}
 use Rattle.owned.specs.Layout.{node_count, rg, clause_in, lost_in, listed_in}
-use Rattle.owned.specs.Lists.{At, kept, listed, own, text}
+use Rattle.owned.specs.Lists.{At, listed, text}
 use Rattle.owned.specs.declared.owned.Owned.{Owned}
 use Rattle.owned.proofs.Moves.{all_in, in_all}
-use Rattle.owned.proofs.Stands.{stands}
-use Rattle.owned.proofs.Totals.{total_none}
-use Rattle.owned.proofs.Wholes.{at_once, at_ring, at_room, at_literal, kept_free, kept_is, lost_bare, lost_by, own_bare, own_by, own_none, ring_lacks}
+use Rattle.owned.proofs.Stands.{kept_few, stands}
+use Rattle.owned.proofs.Wholes.{at_once, at_ring, at_room, at_literal, kept_is, lost_bare, lost_by, own_bare, own_by, own_none, ring_lacks}
 
 -- the literals of a clause are below 2,048, and so is what it lost
 front_small : (C : List ℕ) → well_formed C ≡ true → (k : ℕ) → In k (front C) → k < 2048
@@ -49,16 +47,6 @@ module _ (o : Owned) where
       let hl = at_literal o.room o.links.now o.texts.now s x l i a in
       subst (λ (y : ℕ). Lacks y (R m)) p.1 (ring_lacks o.room o.links.now o.texts.now s (at_room o.room o.links.now o.texts.now s x l i a) l i m (omega arith) h p.0 n)
 
-  kept_few : kept o ≤ o.room
-  kept_few =
-      elim (cases_lt 0 o.room) [
-        | inl r ↦ let k = kept_free o.room o.links.now o.texts.now (stands o) r in omega arith
-        | inr z ↦
-            let t = total_none 2048 (λ l. length (own o l)) (λ l h. ap length (own_bare o.room o.links.now l z)) in
-            let d = ap length (lost_bare o.room o.links.now z) in
-            omega arith
-      ]
-
   pub own_laws : OwnLaws o
   unfolding Differ
   own_laws = record {
@@ -73,7 +61,7 @@ module _ (o : Owned) where
     lost_once = lost_by Differ o.room o.links.now tt (λ r. ring_differ 2050 (node_count o.room) o.links.now (stands o r).held 2049 (omega arith));
     owned_slots = own_by (λ l xs. AllByRecursion (IsSlot o) xs) o.room o.links.now (λ l. tt) (λ r l h. ring_slots r l (omega arith));
     lost_slots = lost_by (AllByRecursion (IsSlot o)) o.room o.links.now tt (λ r. ring_slots r 2049 (omega arith));
-    within = kept_few;
+    within = kept_few o;
     bare = λ e. (λ l. own_bare o.room o.links.now l (omega arith), lost_bare o.room o.links.now (omega arith));
     small = o.small;
   }

@@ -11,10 +11,10 @@ use Rattle.network.specs.Clauses.{last, well_formed}
 use Rattle.network.specs.Lists.{In}
 use Rattle.network.proofs.Lists.{has_in, in_left, in_right, in_cases}
 use Rattle.rules.proofs.Answers.{has_from}
-use Rattle.owned.specs.Layout.{node_count, rg, text_at, home, clause_in, lost_in, Whole}
+use Rattle.owned.specs.Layout.{node_count, rg, text_at, home, clause_in, lost_in, Whole, Sized}
 use Rattle.owned.specs.Totals.{total}
 use Rattle.owned.proofs.Totals.{total_at, total_same}
-use Rattle.owned.proofs.Texts.{Sized, sized_same, clause_same, lost_same, head_body, head_home, head_length}
+use Rattle.owned.proofs.Texts.{sized_same, clause_same, lost_same, head_body, head_home, head_length}
 
 -- what holds of all of a list holds of each, and the other way round
 pub all_in : (P : ℕ → Type 0) (xs : List ℕ) → AllByRecursion P xs → (y : ℕ) → In y xs → P y

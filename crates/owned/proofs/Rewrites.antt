@@ -7,13 +7,13 @@ use Rattle.network.specs.Clauses.{last, well_formed}
 use Rattle.network.specs.Lists.{In}
 use Rattle.rules.proofs.Answers.{has_from}
 use Rattle.owned.specs.declared.owned.Owned.{Owned}
-use Rattle.owned.specs.Layout.{node_count, rg, text_at, home, clause_in, lost_in, Whole}
+use Rattle.owned.specs.Layout.{node_count, rg, text_at, home, clause_in, lost_in, Whole, Sized}
 use Rattle.owned.specs.Lists.{At}
 use Rattle.owned.proofs.Besides.{Beside, beside_body, beside_clause, beside_home, beside_lost}
 use Rattle.owned.proofs.Leaves.{Facts, literal, ringed, slot, whole}
 use Rattle.owned.proofs.Moves.{all_in, in_all}
 use Rattle.owned.proofs.Stands.{stands}
-use Rattle.owned.proofs.Texts.{Sized, all_sized, sized_same}
+use Rattle.owned.proofs.Texts.{all_sized, sized_same}
 use Rattle.owned.proofs.Wholes.{place_of}
 
 -- a slot that has a home stands in an own list

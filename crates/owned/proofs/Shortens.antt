@@ -2,7 +2,6 @@
 use Rattle.std.proofs.Common.{◌≡◌, ℕ, suc, ◌+◌, ◌-◌, ◌<◌, ◌≤◌, true, List, [], ◌∷◌, ◌++◌, length, get_or, take, drop, set, sym, refl, ap, ◌∙◌, subst, inl, inr, arith, rules}
 use borrow.Rule.Slice.PartMut.{put_mid}
 use Rattle.std.specs.List.{AllByRecursion}
-use Rattle.std.proofs.ByRecursion.{All-get_or}
 use Rattle.std.proofs.Math.Seq.{drop-append_seam, take-append_seam}
 use Rattle.std.proofs.lemmas.Bool.{cases_eq}
 use Rattle.std.proofs.lemmas.List.{append_assoc, drop-set-lt, drop-take, get_or-set_other, get_or-set_same, length-append, length-drop, length-take-le, places}
@@ -14,16 +13,16 @@ use Rattle.network.proofs.Lists.{has_in}
 use Rattle.rules.proofs.Formed.{Formed, formed_parts, front_dropped, parts_formed}
 use Rattle.clause.specs.Written.{Front}
 use Rattle.owned.specs.declared.owned.Owned.{Owned}
-use Rattle.owned.specs.Layout.{rg, text_at, home, clause_in, lost_in, listed_in}
+use Rattle.owned.specs.Layout.{text_at, home, clause_in, lost_in, listed_in, Sized}
 use Rattle.owned.specs.Lists.{At, listed, text}
 use Rattle.owned.specs.Effects.{Shortened}
 use Rattle.owned.proofs.Besides.{Beside, beside_clause, beside_listed, beside_set}
 use Rattle.owned.proofs.Drops.{behind, dropped_fewer, dropped_small, dropped_words, listed_kept}
-use Rattle.owned.proofs.Leaves.{Facts, inside, literal, ringed, slot, whole}
+use Rattle.owned.proofs.Leaves.{Facts, inside, slot}
 use Rattle.owned.proofs.Rewrites.{Anew, anew_kept}
 use Rattle.owned.proofs.Stands.{stands}
-use Rattle.owned.proofs.Texts.{Sized, all_sized, clause_is, lost_in_is}
-use Rattle.owned.proofs.Wholes.{at_end, at_sizes, at_well}
+use Rattle.owned.proofs.Texts.{all_sized, clause_is, lost_in_is}
+use Rattle.owned.proofs.Wholes.{at_bounded, at_end, at_sizes, at_well}
 
 module _ (s : Owned) (l i x : ℕ) (a : At s x l i) where
   abbrev old : List ℕ
@@ -60,11 +59,6 @@ module _ (s : Owned) (l i x : ℕ) (a : At s x l i) where
 
   pub words_in : b + 3 + length C ≤ length old
   words_in = let p = inside s l i x a in let z = sizes in let z0 = z.0 in let z1 = z.1 in let n = length_is in omega arith
-
-  bounded : AllByRecursion (λ k. k < 2048) (lost_in old x)
-  bounded =
-      let r = ringed s l i x a in
-      subst (λ (y : ℕ). AllByRecursion (λ k. k < 2048) (lost_in old y)) r.1 (All-get_or (λ y. AllByRecursion (λ k. k < 2048) (lost_in old y)) (rg s.room s.links.now l) i 0 r.0 ((whole s l i x a).bounded l (literal s l i x a)))
 
   -- the literal k dropped
   module _ (k : ℕ) (h : has k (front C) ≡ true) where
@@ -159,7 +153,7 @@ module _ (s : Owned) (l i x : ℕ) (a : At s x l i) where
           size = let p = size in let q = was in let z = sizes in let z1 = z.1 in let e = more in (omega arith, omega arith);
           well = ap well_formed here ∙ parts_formed W g.0;
           end = ap last here ∙ g.1 ∙ at_end s.room s.links.now old (stands s) x l i a;
-          bounded = subst (AllByRecursion (λ k. k < 2048)) (sym lost_now) (dropped_small k C formed there, bounded);
+          bounded = subst (AllByRecursion (λ k. k < 2048)) (sym lost_now) (dropped_small k C formed there, at_bounded s.room s.links.now old (stands s) x l i a);
         }
 
     -- as the code writes it, where at is the place of the slot's words, n the length of the clause and r that of the new one

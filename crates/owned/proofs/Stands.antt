@@ -2,10 +2,10 @@
 use Rattle.std.proofs.Common.{◌≡◌, ℕ, ◌+◌, ◌<◌, ◌≤◌, length, sym, ap, subst, inl, inr, arith}
 use Rattle.std.proofs.lemmas.Bool.{cases_lt}
 use Rattle.owned.specs.Layout.{Sound, home, text_at}
-use Rattle.owned.specs.Lists.{At, own}
+use Rattle.owned.specs.Lists.{At, kept, own}
 use Rattle.owned.specs.declared.owned.Owned.{Owned}
-use Rattle.owned.proofs.Totals.{total_ge}
-use Rattle.owned.proofs.Wholes.{sound, at_slot, at_home, at_literal, at_named, kept_free, own_bare, own_none}
+use Rattle.owned.proofs.Totals.{total_ge, total_none}
+use Rattle.owned.proofs.Wholes.{sound, at_slot, at_home, at_literal, at_named, kept_free, lost_bare, own_bare, own_none}
 
 pub stands : (s : Owned) → Sound s.room s.links.now s.texts.now
 stands s = sound s.whole
@@ -31,16 +31,21 @@ no_literal s x h e g l i a = let q = of_home s x l i a in let r = of_literal s x
 pub by_home : (s : Owned) (x h : ℕ) → h ≡ home s.texts.now x → h < 2048 → 2050 ≤ x → text_at x < length s.texts.now → (i : ℕ) × At s x h i
 by_home s x h e g a b = subst (λ (l : ℕ). (i : ℕ) × At s x l i) (sym e) (at_named s.room s.links.now s.texts.now (stands s) x a (let z = s.exact in omega arith) (omega arith))
 
+-- no more slots are owned or lost than there is room
+pub kept_few : (s : Owned) → kept s ≤ s.room
+kept_few s =
+    elim (cases_lt 0 s.room) [
+      | inl r ↦ let k = kept_free s.room s.links.now s.texts.now (stands s) r in omega arith
+      | inr z ↦
+          let t = total_none 2048 (λ l. length (own s l)) (λ l h. ap length (own_bare s.room s.links.now l z)) in
+          let d = ap length (lost_bare s.room s.links.now z) in
+          omega arith
+    ]
+
 -- no own list is longer than the room
 pub own_few : (s : Owned) (l : ℕ) → length (own s l) ≤ s.room
 own_few s l =
-    elim (cases_lt 0 s.room) [
-      | inr z ↦ let e = ap length (own_bare s.room s.links.now l z) in omega arith
-      | inl r ↦ elim (cases_lt l 2048) [
-        | inl h ↦
-            let t = total_ge 2048 (λ k. length (own s k)) l h in
-            let k = kept_free s.room s.links.now s.texts.now (stands s) r in
-            omega arith
-        | inr g ↦ let e = ap length (own_none s.room s.links.now l g) in omega arith
-      ]
+    elim (cases_lt l 2048) [
+      | inl h ↦ let t = total_ge 2048 (λ k. length (own s k)) l h in let k = kept_few s in omega arith
+      | inr g ↦ let e = ap length (own_none s.room s.links.now l g) in omega arith
     ]

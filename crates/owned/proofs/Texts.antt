@@ -6,7 +6,7 @@ use Rattle.std.proofs.lemmas.List.{ext_get_or, get_or_past, length-take, length-
 use Rattle.std.proofs.lemmas.List.Folds.{list_any-append}
 use Rattle.std.specs.List.{list_any}
 use Rattle.network.specs.Clauses.{front, has}
-use Rattle.owned.specs.Layout.{text_at, home, clause_in, lost_in, listed_in, Sound}
+use Rattle.owned.specs.Layout.{text_at, home, clause_in, lost_in, listed_in, Sound, Sized}
 use Rattle.owned.proofs.Wholes.{slot_sizes}
 
 -- a part of words that are the same there
@@ -21,10 +21,6 @@ part_same ws vs a n l h =
 -- the words of slot y are the same, but for its head
 abbrev pub Body : List ℕ → List ℕ → ℕ → Type 0
 Body old new y = (k : ℕ) → text_at y < k → k < text_at y + 35 → get_or new k 0 ≡ get_or old k 0
-
--- the lengths of slot y are those of clauses
-abbrev pub Sized : List ℕ → ℕ → Type 0
-Sized texts y = (get_or texts (text_at y + 1) 0 ≤ get_or texts (text_at y + 2) 0) × (get_or texts (text_at y + 2) 0 ≤ 32)
 
 module _ (old new : List ℕ) (y : ℕ) (l : length new ≡ length old) (b : Body old new y) where
   pub sized_same : Sized old y → Sized new y

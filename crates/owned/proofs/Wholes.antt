@@ -14,7 +14,7 @@ use Rattle.rings.proofs.Shifts.{slot_at, rings_apart, lacks_other}
 use Rattle.rings.proofs.Words.{ring_differ}
 use Rattle.network.specs.Clauses.{has, last, well_formed}
 use Rattle.slots.specs.Slots.{Kept}
-use Rattle.owned.specs.Layout.{node_count, rg, text_at, home, clause_in, lost_in, own_at, lost_at, Whole, Sound}
+use Rattle.owned.specs.Layout.{node_count, rg, home, clause_in, lost_in, own_at, lost_at, Whole, Sound, Sized}
 use Rattle.owned.specs.Totals.{total}
 use Rattle.owned.proofs.Totals.{total_same}
 
@@ -44,7 +44,7 @@ whole_prop room links texts p q = λ i. record {
   long = le_prop p.long q.long i;
   held = held_prop 2050 (node_count room) links p.held q.held i;
   housed = λ x a b. (le_prop (p.housed x a b).0 (q.housed x a b).0 i, ≡_prop coded_bool (has x (rg room links (home texts x))) true (p.housed x a b).1 (q.housed x a b).1 i);
-  sizes = λ l h. all_prop (λ x. (get_or texts (text_at x + 1) 0 ≤ get_or texts (text_at x + 2) 0) × (get_or texts (text_at x + 2) 0 ≤ 32)) (λ x. ×_prop le_prop le_prop) (rg room links l) (p.sizes l h) (q.sizes l h) i;
+  sizes = λ l h. all_prop (Sized texts) (λ x. ×_prop le_prop le_prop) (rg room links l) (p.sizes l h) (q.sizes l h) i;
   wells = λ l h. all_prop (λ x. well_formed (clause_in texts x) ≡ true) (λ x. ≡_prop coded_bool (well_formed (clause_in texts x)) true) (rg room links l) (p.wells l h) (q.wells l h) i;
   ends = λ l h. all_prop (λ x. last (clause_in texts x) ≡ l) (λ x. ≡_prop coded_ℕ (last (clause_in texts x)) l) (rg room links l) (p.ends l h) (q.ends l h) i;
   bounded = λ l h. all_prop (λ x. AllByRecursion (λ k. k < 2048) (lost_in texts x)) (λ x. all_prop (λ k. k < 2048) (λ k. le_prop) (lost_in texts x)) (rg room links l) (p.bounded l h) (q.bounded l h) i;
@@ -128,6 +128,10 @@ has_place x [] i h e = absurd (omega arith)
 has_place x (y ∷ ys) zero h e = or_left (eqb x y) (has x ys) (eq-eqb x y (sym e))
 has_place x (y ∷ ys) (suc i) h e = or_right (eqb x y) (has x ys) (has_place x ys i (omega arith) e)
 
+-- what holds of all of a list holds at a place
+pub at_place : (P : ℕ → Type 0) (x : ℕ) (xs : List ℕ) (i : ℕ) → i < length xs → get_or xs i 0 ≡ x → AllByRecursion P xs → P x
+at_place P x xs i h e al = subst P e (All-get_or P xs i 0 h al)
+
 -- what has a place in own lists
 abbrev pub Stands : ℕ → List ℕ → ℕ → ℕ → ℕ → Type 0
 Stands room links x l i = (i < length (own_at room links l)) × (get_or (own_at room links l) i 0 ≡ x)
@@ -160,15 +164,23 @@ module _ (room : ℕ) (links texts : List ℕ) (s : Sound room links texts) (x l
   pub at_slot : (2050 ≤ x) × (x < 2050 + room)
   at_slot = let e = at_ring.1 in let q = at_literal in let b = slot_at 2050 (node_count room) links (s at_room).held l i (omega arith) at_ring.0 in (let b0 = b.0 in omega arith, let b1 = b.1 in omega arith)
 
+  -- what holds of the ring
+  at_all : (P : ℕ → Type 0) → AllByRecursion P (rg room links l) → P x
+  at_all P = at_place P x (rg room links l) i at_ring.0 at_ring.1
+
   -- its words tell how long its clause is
-  pub at_sizes : (get_or texts (text_at x + 1) 0 ≤ get_or texts (text_at x + 2) 0) × (get_or texts (text_at x + 2) 0 ≤ 32)
-  at_sizes = subst (λ (y : ℕ). (get_or texts (text_at y + 1) 0 ≤ get_or texts (text_at y + 2) 0) × (get_or texts (text_at y + 2) 0 ≤ 32)) at_ring.1 (All-get_or (λ y. (get_or texts (text_at y + 1) 0 ≤ get_or texts (text_at y + 2) 0) × (get_or texts (text_at y + 2) 0 ≤ 32)) (rg room links l) i 0 at_ring.0 ((s at_room).sizes l (let q = at_literal in omega arith)))
+  pub at_sizes : Sized texts x
+  at_sizes = at_all (Sized texts) ((s at_room).sizes l (let q = at_literal in omega arith))
 
   pub at_well : well_formed (clause_in texts x) ≡ true
-  at_well = subst (λ (y : ℕ). well_formed (clause_in texts y) ≡ true) at_ring.1 (All-get_or (λ y. well_formed (clause_in texts y) ≡ true) (rg room links l) i 0 at_ring.0 ((s at_room).wells l at_literal))
+  at_well = at_all (λ y. well_formed (clause_in texts y) ≡ true) ((s at_room).wells l at_literal)
 
   pub at_end : last (clause_in texts x) ≡ l
-  at_end = subst (λ (y : ℕ). last (clause_in texts y) ≡ l) at_ring.1 (All-get_or (λ y. last (clause_in texts y) ≡ l) (rg room links l) i 0 at_ring.0 ((s at_room).ends l at_literal))
+  at_end = at_all (λ y. last (clause_in texts y) ≡ l) ((s at_room).ends l at_literal)
+
+  -- what its clause lost are literals
+  pub at_bounded : AllByRecursion (λ k. k < 2048) (lost_in texts x)
+  at_bounded = at_all (λ y. AllByRecursion (λ k. k < 2048) (lost_in texts y)) ((s at_room).bounded l at_literal)
 
   -- its words name the list
   pub at_home : home texts x ≡ l
@@ -198,12 +210,12 @@ module _ (room : ℕ) (links texts : List ℕ) (s : Sound room links texts) wher
       (p.0, (rw o p.1.0, ap (λ (ys : List ℕ). get_or ys p.0 0) o ∙ p.1.1))
 
   -- each slot's words tell how long its clause is
-  pub slot_sizes : (x : ℕ) → 2050 ≤ x → x < 2050 + room → (get_or texts (text_at x + 1) 0 ≤ get_or texts (text_at x + 2) 0) × (get_or texts (text_at x + 2) 0 ≤ 32)
+  pub slot_sizes : (x : ℕ) → 2050 ≤ x → x < 2050 + room → Sized texts x
   slot_sizes x a b =
       let w = s (omega arith) in
       let h = w.housed x a b in
       let p = place_of x (rg room links (home texts x)) h.1 in
-      subst (λ (y : ℕ). (get_or texts (text_at y + 1) 0 ≤ get_or texts (text_at y + 2) 0) × (get_or texts (text_at y + 2) 0 ≤ 32)) p.1.1 (All-get_or (λ y. (get_or texts (text_at y + 1) 0 ≤ get_or texts (text_at y + 2) 0) × (get_or texts (text_at y + 2) 0 ≤ 32)) (rg room links (home texts x)) p.0 0 p.1.0 (w.sizes (home texts x) h.0))
+      at_place (Sized texts) x (rg room links (home texts x)) p.0 p.1.0 p.1.1 (w.sizes (home texts x) h.0)
 
   -- no slot of a ring is in another
   pub ring_lacks : 0 < room → (m i l : ℕ) → m < 2050 → l < 2050 → i < length (rg room links m) → (l ≡ m → ⊥) → Lacks (get_or (rg room links m) i 0) (rg room links l)

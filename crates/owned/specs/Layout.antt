@@ -44,13 +44,17 @@ own_at room links l = cond (nat_lt l 2048 && nat_lt 0 room) (rg room links l) []
 unfoldable pub lost_at : ℕ → List ℕ → List ℕ
 lost_at room links = cond (nat_lt 0 room) (rg room links 2049) []
 
+-- the lengths of slot x are those of a clause and of what it was
+abbrev pub Sized : List ℕ → ℕ → Type 0
+Sized texts x = (slice_index texts (text_at x + 1) ≤ slice_index texts (text_at x + 2)) × (slice_index texts (text_at x + 2) ≤ 32)
+
 -- what holds of the words of own lists with room
 pub record Whole (room : ℕ) (links texts : List ℕ) : Type 0 where
   pub long : 2 * node_count room ≤ length links
   pub held : Held 2050 (node_count room) links
   -- each slot stands in the ring of the head that it names
   pub housed : (x : ℕ) → 2050 ≤ x → x < node_count room → (home texts x < 2050) × (has x (rg room links (home texts x)) ≡ true)
-  pub sizes : (l : ℕ) → l < 2050 → AllByRecursion (λ x. (slice_index texts (text_at x + 1) ≤ slice_index texts (text_at x + 2)) × (slice_index texts (text_at x + 2) ≤ 32)) (rg room links l)
+  pub sizes : (l : ℕ) → l < 2050 → AllByRecursion (Sized texts) (rg room links l)
   pub wells : (l : ℕ) → l < 2048 → AllByRecursion (λ x. well_formed (clause_in texts x) ≡ true) (rg room links l)
   pub ends : (l : ℕ) → l < 2048 → AllByRecursion (λ x. last (clause_in texts x) ≡ l) (rg room links l)
   pub bounded : (l : ℕ) → l < 2048 → AllByRecursion (λ x. AllByRecursion (λ k. k < 2048) (lost_in texts x)) (rg room links l)
