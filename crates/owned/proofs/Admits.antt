@@ -1,25 +1,25 @@
 -- A clause put into a free slot. Assumes nothing.
-use Rattle.std.proofs.Common.{◌≡◌, ℕ, suc, ◌+◌, ◌-◌, ◌*◌, ◌<◌, ◌≤◌, Bool, true, false, cond, ◌&&◌, ltb, List, [], ◌∷◌, ◌++◌, length, get_or, take, drop, set, Option, Some, None, sym, refl, ap, ◌∙◌, subst, inl, inr, arith}
+use Rattle.std.proofs.Common.{◌≡◌, ℕ, ◌+◌, ◌<◌, ◌≤◌, Bool, true, false, ◌&&◌, ltb, List, [], ◌∷◌, ◌++◌, length, get_or, take, drop, set, Some, None, sym, ap, ◌∙◌, subst, inl, inr, arith}
 use Rattle.std.specs.List.{AllByRecursion}
-use Rattle.std.proofs.lemmas.Bool.{cases_eq, cases_lt, cond-true, cond-false, lt-ltb, le-ltb, and_from, and_right}
-use Rattle.std.proofs.lemmas.List.{append-nil, drop-set-lt, get_or-set_other, get_or-set_same, length_push, nil_from_length}
+use Rattle.std.proofs.lemmas.Bool.{cases_eq, lt-ltb, le-ltb, and_from, and_right}
+use Rattle.std.proofs.lemmas.List.{append-nil, drop-set-lt, get_or-set_other, get_or-set_same, length_push}
 use Rattle.std.proofs.Math.Seq.{drop-length}
-use Rattle.rings.specs.Rings.{at, drop_at, shifted, slot_after, Lacks, Place}
+use Rattle.rings.specs.Rings.{drop_at, shifted, slot_after, Lacks, Place}
 use Rattle.rings.proofs.Bounds.{place_in}
 use Rattle.rings.proofs.Drops.{at_else, at_here}
 use Rattle.network.specs.Clauses.{front, last, well_formed}
 use Rattle.rules.proofs.Formed.{Formed, formed_parts}
 use Rattle.owned.specs.declared.owned.Owned.{Owned}
 use Rattle.owned.specs.Totals.{total}
-use Rattle.owned.specs.Layout.{node_count, rg, text_at, home, clause_in, lost_in, listed_in, own_at, lost_at, Whole, Written}
-use Rattle.owned.specs.Lists.{kept, lost, own, text, listed}
+use Rattle.owned.specs.Layout.{node_count, rg, text_at, home, clause_in, lost_in, listed_in, own_at, Whole, Written}
+use Rattle.owned.specs.Lists.{kept, text, listed}
 use Rattle.owned.specs.Effects.{Admitted}
-use Rattle.owned.proofs.Besides.{Beside, beside_clause, beside_listed, beside_rewritten, beside_set, clause_is, lost_in_is}
-use Rattle.owned.proofs.Goes.{Went, first_none, first_some, shift_went, went_else, went_from, went_to}
+use Rattle.owned.proofs.Besides.{Beside, beside_clause, beside_listed, beside_rewritten, beside_set}
+use Rattle.owned.proofs.Goes.{Went, first_none, first_some, shift_went, went_else, went_to}
 use Rattle.owned.proofs.Leaves.{Facts}
 use Rattle.owned.proofs.Moves.{moved_whole}
 use Rattle.owned.proofs.Stands.{stands}
-use Rattle.owned.proofs.Texts.{all_sized}
+use Rattle.owned.proofs.Texts.{all_sized, clause_is, lost_in_is}
 use Rattle.owned.proofs.Totals.{total_at}
 use Rattle.owned.proofs.Wholes.{kept_free, lost_by, lost_is, own_by, own_changed, own_total, ring_lacks}
 

@@ -1,12 +1,12 @@
 -- What the questions of own lists read. Assumes nothing.
-use Rattle.std.proofs.Common.{◌≡◌, ℕ, suc, ◌+◌, ◌-◌, ◌*◌, ◌<◌, ◌≤◌, cond, ltb, List, [], ◌∷◌, length, get_or, Some, None, Option, sym, ap, ◌∙◌, subst, inl, inr, arith}
+use Rattle.std.proofs.Common.{◌≡◌, ℕ, suc, ◌+◌, ◌-◌, ◌*◌, ◌<◌, ◌≤◌, cond, ltb, List, ◌∷◌, length, get_or, Some, None, Option, sym, ap, ◌∙◌, subst, inl, inr, arith}
 use Rattle.std.specs.Option.{MatchOption, unwrap_or}
 use Rattle.std.proofs.lemmas.Bool.{cases_eq, cases_lt, cond-true, cond-false, lt-ltb, le-ltb}
 use Rattle.rings.specs.Rings.{next, prev, Held, slot_after}
 use Rattle.rings.proofs.Bounds.{after_slot}
 use Rattle.rings.proofs.Paths.{path_prev}
 use Rattle.rings.proofs.Shifts.{slot_at}
-use Rattle.owned.specs.Layout.{node_count, rg, own_at, Sound}
+use Rattle.owned.specs.Layout.{node_count, rg}
 use Rattle.owned.specs.Lists.{At, own}
 use Rattle.owned.specs.declared.owned.Owned.{Owned}
 use Rattle.owned.proofs.Stands.{of_literal, own_few, stands}

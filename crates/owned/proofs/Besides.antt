@@ -1,21 +1,12 @@
 -- Words of which only those of one slot changed. Assumes nothing.
-use Rattle.std.proofs.Common.{◌≡◌, ℕ, ◌+◌, ◌-◌, ◌*◌, ◌<◌, ◌≤◌, true, leb, List, [], length, get_or, take, drop, set, sym, refl, ap, ◌∙◌, inl, inr, arith}
-use Rattle.std.proofs.lemmas.Bool.{cases_lt, cases_eq, cond-true, le-leb}
+use Rattle.std.proofs.Common.{◌≡◌, ℕ, ◌+◌, ◌<◌, ◌≤◌, true, List, length, get_or, set, sym, refl, ◌∙◌, inl, inr, arith}
+use Rattle.std.proofs.lemmas.Bool.{cases_lt}
 use Rattle.std.proofs.lemmas.List.{length-set, get_or-set_other}
 use Rattle.owned.specs.Layout.{text_at, home, clause_in, lost_in, listed_in}
 use Rattle.std.specs.List.{AllByRecursion}
 use Rattle.network.specs.Clauses.{last, well_formed}
 use Rattle.owned.proofs.Moves.{Rewritten}
 use Rattle.owned.proofs.Texts.{Body, Sized, clause_low, clause_same, listed_same, lost_low, lost_same, sized_same}
-
--- by the words of a slot
-pub clause_is : (texts : List ℕ) (x : ℕ) → 2050 ≤ x → clause_in texts x ≡ take (get_or texts (text_at x + 1) 0) (drop (text_at x + 3) texts)
-unfolding clause_in
-clause_is texts x h = cond-true (leb 2050 x) (take (get_or texts (text_at x + 1) 0) (drop (text_at x + 3) texts)) [] (le-leb 2050 x h)
-
-pub lost_in_is : (texts : List ℕ) (x : ℕ) → 2050 ≤ x → lost_in texts x ≡ drop (get_or texts (text_at x + 1) 0) (take (get_or texts (text_at x + 2) 0) (drop (text_at x + 3) texts))
-unfolding lost_in
-lost_in_is texts x h = cond-true (leb 2050 x) (drop (get_or texts (text_at x + 1) 0) (take (get_or texts (text_at x + 2) 0) (drop (text_at x + 3) texts))) [] (le-leb 2050 x h)
 
 -- only the words of a slot at b changed
 pub record Beside (old new : List ℕ) (b : ℕ) : Type 0 where

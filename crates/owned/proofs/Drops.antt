@@ -1,9 +1,9 @@
 -- A clause that lost a literal before its last, and what uses may have then. Assumes nothing.
-use Rattle.std.proofs.Common.{◌≡◌, ℕ, suc, ◌+◌, ◌-◌, ◌<◌, ◌≤◌, Bool, true, false, ◌||◌, eqb, ◌⊎◌, List, [], ◌∷◌, ◌++◌, length, take, drop, set, sym, refl, ap, ◌∙◌, subst, inl, inr, ⊎_elim, arith}
+use Rattle.std.proofs.Common.{◌≡◌, ℕ, suc, ◌+◌, ◌-◌, ◌<◌, Bool, true, ◌||◌, eqb, List, [], ◌∷◌, ◌++◌, length, take, drop, set, sym, refl, ap, ◌∙◌, subst, inl, inr, ⊎_elim, arith}
 use Rattle.std.specs.List.{list_any}
-use Rattle.std.proofs.Math.Seq.{drop-append_seam, take-append-add, take-append_seam}
+use Rattle.std.proofs.Math.Seq.{drop-append_seam, take-append-add}
 use Rattle.std.proofs.lemmas.Bool.{cases_eq, cases_Bool, eq-eqb, ne_eqb}
-use Rattle.std.proofs.lemmas.List.{drop-take, length-drop, set-append_right}
+use Rattle.std.proofs.lemmas.List.{length-drop, set-append_right}
 use Rattle.network.specs.Assignments.{node}
 use Rattle.network.specs.Clauses.{front, has, last, without}
 use Rattle.network.specs.Lists.{In}
@@ -13,25 +13,11 @@ use Rattle.rules.proofs.Answers.{has_from}
 use Rattle.rules.proofs.Formed.{Formed, front_below, front_dropped}
 use Rattle.rules.proofs.TakenOut.{front_in, front_or_last}
 use Rattle.rules.proofs.Verdicts.{without_length}
+use Rattle.owned.proofs.Texts.{front_take, has_same}
 
--- the literals but the last, by how many they are
-pub front_take : (C : List ℕ) → take (length C - 1) C ≡ front C
-front_take [] = refl
-front_take (x ∷ []) = refl
-front_take (x ∷ (y ∷ C)) =
-    let e : length (x ∷ (y ∷ C)) - 1 ≡ suc (length (y ∷ C) - 1) = omega arith in
-    ap (λ (n : ℕ). take n (x ∷ (y ∷ C))) e ∙ ap (λ (D : List ℕ). x ∷ D) (front_take (y ∷ C))
-
--- the test of a literal, either way round
-flip : (a b : ℕ) → eqb a b ≡ eqb b a
-flip a b = elim (cases_eq a b) [ inl e ↦ eq-eqb a b e ∙ sym (eq-eqb b a (sym e)) | inr n ↦ ne_eqb a b n ∙ sym (ne_eqb b a (λ q. n (sym q))) ]
-
-any_has : (k : ℕ) (C : List ℕ) → list_any (λ y. eqb y k) C ≡ has k C
-any_has k [] = refl
-any_has k (x ∷ C) = ap (λ (b : Bool). b || list_any (λ y. eqb y k) C) (flip x k) ∙ ap (λ (b : Bool). eqb k x || b) (any_has k C)
-
+-- whether the literals but the last have one
 pub any_front : (k : ℕ) (C : List ℕ) → list_any (λ y. eqb y k) (take (length C - 1) C) ≡ has k (front C)
-any_front k C = ap (list_any (λ y. eqb y k)) (front_take C) ∙ any_has k (front C)
+any_front k C = ap (list_any (λ y. eqb y k)) (front_take C) ∙ has_same k (front C)
 
 -- two tests that follow from each other
 same_by : (p q : Bool) → (p ≡ true → q ≡ true) → (q ≡ true → p ≡ true) → p ≡ q
@@ -59,13 +45,13 @@ module _ (k : ℕ) (C : List ℕ) (f : Formed C) (h : In k (front C)) where
   listed_kept D j =
       same_by (has j (front W ++ (k ∷ D))) (has j (front C ++ D))
       (λ t. has_from j (front C ++ D) (⊎_elim
-          (λ i. in_left j (front C) D (front_kept j i))
-          (λ i. ⊎_elim (λ e. in_left j (front C) D (subst (λ (z : ℕ). In z (front C)) (sym e) h)) (λ i. in_right j (front C) D i) i)
-          (in_cases j (front W) (k ∷ D) (has_in j (front W ++ (k ∷ D)) t))))
+      (λ i. in_left j (front C) D (front_kept j i))
+      (λ i. ⊎_elim (λ e. in_left j (front C) D (subst (λ (z : ℕ). In z (front C)) (sym e) h)) (λ i. in_right j (front C) D i) i)
+      (in_cases j (front W) (k ∷ D) (has_in j (front W ++ (k ∷ D)) t))))
       (λ t. has_from j (front W ++ (k ∷ D)) (⊎_elim
-          (λ i. elim (cases_eq j k) [ inl e ↦ in_right j (front W) (k ∷ D) (inl e) | inr n ↦ in_left j (front W) (k ∷ D) (kept_front j i n) ])
-          (λ i. in_right j (front W) (k ∷ D) (inr i))
-          (in_cases j (front C) D (has_in j (front C ++ D) t))))
+      (λ i. elim (cases_eq j k) [ inl e ↦ in_right j (front W) (k ∷ D) (inl e) | inr n ↦ in_left j (front W) (k ∷ D) (kept_front j i n) ])
+      (λ i. in_right j (front W) (k ∷ D) (inr i))
+      (in_cases j (front C) D (has_in j (front C ++ D) t))))
 
   pub dropped_small : k < 2048
   dropped_small = let a = front_below C f.order k h in let b = f.small in omega arith

@@ -1,18 +1,17 @@
 -- Words with every slot free. Assumes nothing.
-use Rattle.std.proofs.Common.{◌≡◌, ℕ, zero, suc, ◌+◌, ◌-◌, ◌*◌, ◌<◌, ◌≤◌, true, List, [], ◌∷◌, ◌++◌, length, get_or, set, sym, refl, ap, ◌∙◌, inl, inr, arith}
+use Rattle.std.proofs.Common.{◌≡◌, ℕ, ◌+◌, ◌*◌, ◌<◌, ◌≤◌, List, [], ◌∷◌, ◌++◌, length, get_or, set, sym, refl, ap, ◌∙◌, inl, inr, arith}
 use Rattle.std.specs.List.{AllByRecursion}
 use Rattle.std.proofs.lemmas.Bool.{cases_lt, cases_eq}
 use Rattle.std.proofs.lemmas.List.{length_push, get_or-set_same, get_or-set_other, length-set}
 use Rattle.std.proofs.ByRecursion.{All-from_get_or, All-push, All-weaker}
-use Rattle.rings.specs.Rings.{at, next, prev, linked, put_in, scattered}
+use Rattle.rings.specs.Rings.{at, next, linked, put_in, scattered}
 use Rattle.rings.proofs.Drops.{at_here, at_else}
 use Rattle.rings.proofs.Shifts.{slot_at, lone_ring, lone_held, push_held, push_ring, push_still}
 use Rattle.rings.proofs.Bounds.{put_is, scattered_alone, scattered_length}
-use Rattle.network.specs.Clauses.{has}
 use Rattle.network.specs.Lists.{In}
 use Rattle.network.proofs.Lists.{has_in, in_left, in_right}
 use Rattle.rules.proofs.Answers.{has_from}
-use Rattle.owned.specs.Layout.{node_count, rg, text_at, home, own_at, Whole, Sound, Filled, Cleared}
+use Rattle.owned.specs.Layout.{node_count, rg, text_at, own_at, Whole, Filled, Cleared}
 use Rattle.owned.specs.Totals.{total}
 use Rattle.owned.proofs.Totals.{total_none}
 use Rattle.owned.proofs.Leaves.{Facts}

@@ -1,9 +1,9 @@
 -- The lost slots freed. Assumes nothing.
-use Rattle.std.proofs.Common.{◌≡◌, ℕ, ◌+◌, ◌*◌, ◌<◌, ◌≤◌, List, [], length, get_or, set, sym, refl, ap, ◌∙◌, inl, inr, arith}
+use Rattle.std.proofs.Common.{◌≡◌, ℕ, ◌+◌, ◌*◌, ◌<◌, ◌≤◌, List, [], length, set, sym, refl, ap, ◌∙◌, inl, inr, arith}
 use Rattle.std.proofs.lemmas.Bool.{cases_lt}
 use Rattle.rings.specs.Rings.{drop_at, shifted, Place}
 use Rattle.rings.proofs.Bounds.{place_in}
-use Rattle.owned.specs.Layout.{node_count, rg, text_at, clause_in, lost_in, lost_at, own_at, Whole, Sound, Kin}
+use Rattle.owned.specs.Layout.{node_count, rg, text_at, lost_at, own_at, Whole, Sound, Kin}
 use Rattle.owned.specs.Effects.{Freed}
 use Rattle.owned.specs.Lists.{own}
 use Rattle.owned.specs.declared.owned.Owned.{Owned}

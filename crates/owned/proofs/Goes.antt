@@ -1,16 +1,15 @@
 -- A slot that went from one ring to the end of another, and what its own list has then. Assumes nothing.
-use Rattle.std.proofs.Common.{◌≡◌, ℕ, suc, ◌+◌, ◌-◌, ◌*◌, ◌<◌, ◌≤◌, cond, ltb, List, [], ◌∷◌, ◌++◌, length, get_or, None, Some, sym, refl, ap, ◌∙◌, subst, inl, inr, eqb, length-set, arith}
+use Rattle.std.proofs.Common.{◌≡◌, ℕ, ◌-◌, ◌<◌, ◌≤◌, cond, ltb, List, [], ◌∷◌, ◌++◌, length, get_or, None, Some, sym, refl, ap, ◌∙◌, subst, inl, inr, eqb, length-set, arith}
 use Rattle.std.proofs.lemmas.Bool.{cases_eq, cases_lt, cond_both, cond-true, cond-false, lt-ltb, le-ltb}
 use Rattle.std.proofs.lemmas.List.{nil_from_length}
 use Rattle.std.proofs.lemmas.Option.{none-some}
 use Rattle.std.proofs.ByRecursion.{All-from_get_or}
-use Rattle.rings.specs.Rings.{at, cut_out, slot_after, drop_at, linked, next, prev, put_in, shifted, swapped, swapped_out, unlinked, Differ, Held, Place}
+use Rattle.rings.specs.Rings.{at, slot_after, drop_at, linked, next, prev, put_in, shifted, swapped, swapped_out, unlinked, Differ, Held, Place}
 use Rattle.rings.proofs.Bounds.{after_head, place_in, put_is, ring_laws, shifted_is, swapped_is}
 use Rattle.rings.proofs.Drops.{at_else, at_here}
 use Rattle.rings.proofs.Holes.{apart_from}
 use Rattle.rings.proofs.Shifts.{moved_length, swaps}
 use Rattle.rings.proofs.Words.{ring_differ}
-use Rattle.network.specs.Lists.{In}
 use Rattle.network.proofs.Lists.{has_in}
 use Rattle.rules.proofs.Answers.{has_from}
 use Rattle.slots.specs.Slots.{filled_by_last}

@@ -1,18 +1,16 @@
 -- A slot that left its own list, to be free or lost. Assumes nothing.
-use Rattle.std.proofs.Common.{◌≡◌, ℕ, suc, ◌+◌, ◌-◌, ◌*◌, ◌<◌, ◌≤◌, Bool, cond, ltb, List, [], ◌∷◌, ◌++◌, length, get_or, set, Option, Some, None, sym, refl, ap, ◌∙◌, subst, inl, inr, arith}
-use Rattle.std.proofs.lemmas.List.{get_or-set_same}
+use Rattle.std.proofs.Common.{◌≡◌, ℕ, ◌+◌, ◌-◌, ◌*◌, ◌<◌, ◌≤◌, List, [], ◌∷◌, ◌++◌, length, get_or, set, Option, Some, None, sym, ap, ◌∙◌, arith}
 use Rattle.rings.specs.Rings.{at, Place}
-use Rattle.rings.proofs.Words.{ring_differ}
 use Rattle.owned.specs.declared.owned.Owned.{Owned}
 use Rattle.owned.specs.Totals.{total}
-use Rattle.owned.specs.Layout.{node_count, rg, text_at, home, own_at, lost_at, Whole, Sound}
+use Rattle.owned.specs.Layout.{node_count, rg, text_at, own_at, lost_at, Whole, Sound}
 use Rattle.owned.specs.Lists.{At, own, lost}
 use Rattle.owned.specs.Effects.{SameTexts}
 use Rattle.owned.proofs.Goes.{Went, went_else, went_from, went_to}
 use Rattle.owned.proofs.Moves.{head_rewritten, moved_whole}
-use Rattle.owned.proofs.Texts.{Sized, all_clauses, all_listed, head_body, head_length, sized_same}
+use Rattle.owned.proofs.Texts.{all_clauses, all_listed, head_body, head_length}
 use Rattle.owned.proofs.Totals.{total_at, total_ge}
-use Rattle.owned.proofs.Wholes.{at_literal, at_ring, at_room, at_sizes, at_slot, lost_is, own_changed, own_is, own_total}
+use Rattle.owned.proofs.Wholes.{at_literal, at_ring, at_room, at_sizes, at_slot, lost_is, own_changed, own_total}
 use Rattle.owned.proofs.Stands.{stands as all_stands}
 
 -- the facts of own lists in these words

@@ -17,3 +17,4 @@ pub mod Stands
 pub mod Asks
 pub mod Fills
 pub mod Frees
+pub mod Laws

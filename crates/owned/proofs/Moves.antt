@@ -1,5 +1,5 @@
 -- A slot moved from one ring to the end of another, its words written anew: what holds of own lists still holds. Assumes nothing.
-use Rattle.std.proofs.Common.{◌≡◌, ℕ, zero, suc, ◌+◌, ◌-◌, ◌*◌, ◌<◌, ◌≤◌, Bool, true, ◌⊎◌, List, [], ◌∷◌, ◌++◌, length, get_or, set, sym, refl, ap, ◌∙◌, subst, inl, inr, ⊎_elim, arith}
+use Rattle.std.proofs.Common.{◌≡◌, ℕ, zero, suc, ◌+◌, ◌<◌, ◌≤◌, true, ◌⊎◌, List, [], ◌∷◌, ◌++◌, length, get_or, set, sym, refl, ap, ◌∙◌, subst, inl, inr, ⊎_elim, arith}
 use Rattle.std.specs.List.{AllByRecursion}
 use Rattle.std.proofs.ByRecursion.{All-from_get_or}
 use Rattle.std.proofs.lemmas.Bool.{cases_eq}
@@ -7,8 +7,7 @@ use Rattle.std.proofs.lemmas.List.{length_push, get_or-set_same}
 use Rattle.rings.specs.Rings.{at, drop_at, Differ, Held, Lacks}
 use Rattle.rings.proofs.Drops.{at_here, at_else, drop_at_length, drop_at_out}
 use Rattle.rings.proofs.Shifts.{slot_at, lacks_other}
-use Rattle.rings.proofs.Words.{ring_differ}
-use Rattle.network.specs.Clauses.{has, last, well_formed}
+use Rattle.network.specs.Clauses.{last, well_formed}
 use Rattle.network.specs.Lists.{In}
 use Rattle.network.proofs.Lists.{has_in, in_left, in_right, in_cases}
 use Rattle.rules.proofs.Answers.{has_from}

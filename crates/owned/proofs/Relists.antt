@@ -1,5 +1,5 @@
 -- What a slot lost forgotten by uses. Assumes nothing.
-use Rattle.std.proofs.Common.{◌≡◌, ℕ, ◌+◌, ◌*◌, ◌<◌, ◌≤◌, Bool, true, List, [], ◌++◌, length, get_or, take, drop, set, sym, refl, ap, ◌∙◌, subst, inl, inr, arith}
+use Rattle.std.proofs.Common.{◌≡◌, ℕ, ◌+◌, ◌<◌, ◌≤◌, List, [], ◌++◌, length, get_or, take, drop, set, sym, refl, ap, ◌∙◌, subst, inl, inr, arith}
 use Rattle.std.specs.List.{AllByRecursion}
 use Rattle.std.proofs.Math.ListN.{drop_of_length-le}
 use Rattle.std.proofs.lemmas.Bool.{cases_eq}
@@ -7,14 +7,14 @@ use Rattle.std.proofs.lemmas.List.{append-nil, drop-set-lt, get_or-set_other, ge
 use Rattle.rings.proofs.Drops.{at_else, at_here}
 use Rattle.network.specs.Clauses.{front, last, well_formed}
 use Rattle.owned.specs.declared.owned.Owned.{Owned}
-use Rattle.owned.specs.Layout.{text_at, home, clause_in, lost_in, listed_in}
+use Rattle.owned.specs.Layout.{text_at, clause_in, lost_in, listed_in}
 use Rattle.owned.specs.Lists.{At, listed, text}
 use Rattle.owned.specs.Effects.{Relisted}
-use Rattle.owned.proofs.Besides.{Beside, beside_clause, beside_listed, beside_none, beside_set, clause_is, lost_in_is}
+use Rattle.owned.proofs.Besides.{Beside, beside_clause, beside_listed, beside_none, beside_set}
 use Rattle.owned.proofs.Leaves.{Facts, inside, slot}
 use Rattle.owned.proofs.Rewrites.{Anew, anew_kept}
 use Rattle.owned.proofs.Stands.{stands}
-use Rattle.owned.proofs.Texts.{Sized, all_sized}
+use Rattle.owned.proofs.Texts.{Sized, all_sized, clause_is, lost_in_is}
 use Rattle.owned.proofs.Wholes.{at_end, at_sizes, at_well}
 
 module _ (s : Owned) (l i x : ℕ) (a : At s x l i) where

@@ -1,16 +1,14 @@
 -- A slot that left its own list, order kept. Assumes nothing.
-use Rattle.std.proofs.Common.{◌≡◌, ℕ, suc, ◌+◌, ◌-◌, ◌<◌, ◌≤◌, Bool, cond, true, false, ltb, List, [], ◌∷◌, ◌++◌, length, get_or, set, Option, Some, None, sym, refl, ap, ◌∙◌, subst, inl, inr, arith}
-use Rattle.std.proofs.lemmas.Bool.{cases_Bool, cases_lt, cond-true, cond-false, lt-ltb, le-ltb}
-use Rattle.rings.specs.Rings.{drop_at, shifted, slot_after}
-use Rattle.rings.proofs.Bounds.{ring_laws}
+use Rattle.std.proofs.Common.{◌≡◌, ℕ, suc, ◌+◌, ◌-◌, ◌<◌, ◌≤◌, Bool, cond, List, [], ◌∷◌, ◌++◌, get_or, set, Option, Some, None, sym, refl, ap, ◌∙◌, subst, inl, inr, arith}
+use Rattle.std.proofs.lemmas.Bool.{cases_Bool, cond-true, cond-false}
+use Rattle.rings.specs.Rings.{drop_at, shifted}
 use Rattle.rings.proofs.Drops.{at_here, drop_at_high, drop_at_length}
 use Rattle.owned.specs.declared.owned.Owned.{Owned}
-use Rattle.owned.specs.Layout.{node_count, rg, text_at, own_at, lost_at}
+use Rattle.owned.specs.Layout.{rg, text_at, own_at, lost_at}
 use Rattle.owned.specs.Lists.{At, own, lost}
 use Rattle.owned.specs.Effects.{Retired}
-use Rattle.owned.proofs.Leaves.{Facts, Found, left_free, left_kept, left_lost, left_owns, left_same, literal, some, stood}
+use Rattle.owned.proofs.Leaves.{Facts, Found, left_free, left_kept, left_lost, left_owns, left_same, literal, stood}
 use Rattle.owned.proofs.Goes.{Went, shift_went}
-use Rattle.owned.proofs.Wholes.{own_is}
 
 module _ (s : Owned) (l i x : ℕ) (a : At s x l i) (b : Bool) (h : ℕ) (e : h ≡ cond b 2049 2048) where
   abbrev new : List ℕ

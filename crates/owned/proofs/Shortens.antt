@@ -1,11 +1,11 @@
 -- A slot whose clause lost a literal, which stays behind the others. Assumes nothing.
-use Rattle.std.proofs.Common.{◌≡◌, ℕ, suc, ◌+◌, ◌-◌, ◌*◌, ◌<◌, ◌≤◌, true, List, [], ◌∷◌, ◌++◌, length, get_or, take, drop, set, sym, refl, ap, ◌∙◌, subst, inl, inr, arith, rules}
+use Rattle.std.proofs.Common.{◌≡◌, ℕ, suc, ◌+◌, ◌-◌, ◌<◌, ◌≤◌, true, List, [], ◌∷◌, ◌++◌, length, get_or, take, drop, set, sym, refl, ap, ◌∙◌, subst, inl, inr, arith, rules}
 use borrow.Rule.Slice.PartMut.{put_mid}
 use Rattle.std.specs.List.{AllByRecursion}
 use Rattle.std.proofs.ByRecursion.{All-get_or}
 use Rattle.std.proofs.Math.Seq.{drop-append_seam, take-append_seam}
 use Rattle.std.proofs.lemmas.Bool.{cases_eq}
-use Rattle.std.proofs.lemmas.List.{append_assoc, drop-drop, drop-set-lt, drop-take, get_or-set_other, get_or-set_same, length-append, length-drop, length-take-le, length-set, places}
+use Rattle.std.proofs.lemmas.List.{append_assoc, drop-set-lt, drop-take, get_or-set_other, get_or-set_same, length-append, length-drop, length-take-le, places}
 use Rattle.std.proofs.lemmas.Slice.{overwrites}
 use Rattle.rings.proofs.Drops.{at_else, at_here}
 use Rattle.network.specs.Clauses.{front, has, last, well_formed, without}
@@ -17,12 +17,12 @@ use Rattle.owned.specs.declared.owned.Owned.{Owned}
 use Rattle.owned.specs.Layout.{rg, text_at, home, clause_in, lost_in, listed_in}
 use Rattle.owned.specs.Lists.{At, listed, text}
 use Rattle.owned.specs.Effects.{Shortened}
-use Rattle.owned.proofs.Besides.{Beside, beside_clause, beside_listed, beside_set, clause_is, lost_in_is}
+use Rattle.owned.proofs.Besides.{Beside, beside_clause, beside_listed, beside_set}
 use Rattle.owned.proofs.Drops.{behind, dropped_fewer, dropped_small, dropped_words, listed_kept}
 use Rattle.owned.proofs.Leaves.{Facts, inside, literal, ringed, slot, whole}
 use Rattle.owned.proofs.Rewrites.{Anew, anew_kept}
 use Rattle.owned.proofs.Stands.{stands}
-use Rattle.owned.proofs.Texts.{Sized, all_sized}
+use Rattle.owned.proofs.Texts.{Sized, all_sized, clause_is, lost_in_is}
 use Rattle.owned.proofs.Wholes.{at_end, at_sizes, at_well}
 
 module _ (s : Owned) (l i x : ℕ) (a : At s x l i) where

@@ -1,9 +1,8 @@
 -- What the facts of own lists say. Assumes nothing.
-use Rattle.std.proofs.Common.{◌≡◌, ℕ, ◌+◌, ◌*◌, ◌<◌, ◌≤◌, List, length, get_or, sym, ap, subst, inl, inr, arith}
+use Rattle.std.proofs.Common.{◌≡◌, ℕ, ◌+◌, ◌<◌, ◌≤◌, length, sym, ap, subst, inl, inr, arith}
 use Rattle.std.proofs.lemmas.Bool.{cases_lt}
-use Rattle.owned.specs.Layout.{Sound, own_at, home, text_at}
-use Rattle.owned.specs.Lists.{At, own, lost}
-use Rattle.owned.specs.Totals.{total}
+use Rattle.owned.specs.Layout.{Sound, home, text_at}
+use Rattle.owned.specs.Lists.{At, own}
 use Rattle.owned.specs.declared.owned.Owned.{Owned}
 use Rattle.owned.proofs.Totals.{total_ge}
 use Rattle.owned.proofs.Wholes.{sound, at_slot, at_home, at_literal, at_named, kept_free, own_bare, own_none}

@@ -99,13 +99,13 @@ module _ (texts : List ℕ) (x h : ℕ) (slot : 2050 ≤ x) where
 
 -- ## What is read of a slot
 
-pub clause_high : (texts : List ℕ) (y : ℕ) → 2050 ≤ y → clause_in texts y ≡ take (get_or texts (text_at y + 1) 0) (drop (text_at y + 3) texts)
+pub clause_is : (texts : List ℕ) (y : ℕ) → 2050 ≤ y → clause_in texts y ≡ take (get_or texts (text_at y + 1) 0) (drop (text_at y + 3) texts)
 unfolding clause_in
-clause_high texts y h = cond-true (leb 2050 y) _ [] (le-leb 2050 y h)
+clause_is texts y h = cond-true (leb 2050 y) _ [] (le-leb 2050 y h)
 
-pub lost_high : (texts : List ℕ) (y : ℕ) → 2050 ≤ y → lost_in texts y ≡ drop (get_or texts (text_at y + 1) 0) (take (get_or texts (text_at y + 2) 0) (drop (text_at y + 3) texts))
+pub lost_in_is : (texts : List ℕ) (y : ℕ) → 2050 ≤ y → lost_in texts y ≡ drop (get_or texts (text_at y + 1) 0) (take (get_or texts (text_at y + 2) 0) (drop (text_at y + 3) texts))
 unfolding lost_in
-lost_high texts y h = cond-true (leb 2050 y) _ [] (le-leb 2050 y h)
+lost_in_is texts y h = cond-true (leb 2050 y) _ [] (le-leb 2050 y h)
 
 module _ (room : ℕ) (links texts : List ℕ) (s : Sound room links texts) (exact : length texts ≡ 35 * room) (y : ℕ) (h : 2050 ≤ y) (b n : ℕ) (at : b ≡ text_at y) (size : n ≡ get_or texts (b + 1) 0) where
   size' : n ≡ get_or texts (text_at y + 1) 0
@@ -121,7 +121,7 @@ module _ (room : ℕ) (links texts : List ℕ) (s : Sound room links texts) (exa
       ap (λ (k : ℕ). take k (drop (b + 3) texts)) (omega arith)
       ∙ ap (λ (k : ℕ). take n (drop (k + 3) texts)) at
       ∙ ap (λ (k : ℕ). take k (drop (text_at y + 3) texts)) size'
-      ∙ sym (clause_high texts y h)
+      ∙ sym (clause_is texts y h)
 
   -- and is empty where these would end past the words
   pub clause_past : length texts < b + 3 + n → [] ≡ clause_in texts y
@@ -132,7 +132,7 @@ module _ (room : ℕ) (links texts : List ℕ) (s : Sound room links texts) (exa
       let e = size' in
       let p = past n (omega arith) g in
       let q = get_or_past texts (text_at y + 1) 0 (omega arith) in
-      sym (clause_high texts y h ∙ ap (λ (k : ℕ). take k (drop (text_at y + 3) texts)) q)
+      sym (clause_is texts y h ∙ ap (λ (k : ℕ). take k (drop (text_at y + 3) texts)) q)
 
   -- the same of what it lost
   module _ (m : ℕ) (was : m ≡ get_or texts (b + 2) 0) where
@@ -153,7 +153,7 @@ module _ (room : ℕ) (links texts : List ℕ) (s : Sound room links texts) (exa
         ∙ ap (λ (k : ℕ). drop n (take m (drop (k + 3) texts))) at
         ∙ ap (λ (k : ℕ). drop k (take m (drop (text_at y + 3) texts))) size'
         ∙ ap (λ (k : ℕ). drop (get_or texts (text_at y + 1) 0) (take k (drop (text_at y + 3) texts))) was'
-        ∙ sym (lost_high texts y h)
+        ∙ sym (lost_in_is texts y h)
 
     pub lost_past : (b + 3 + m < b + 3 + n) ⊎ (length texts < b + 3 + m) → [] ≡ lost_in texts y
     lost_past g =
@@ -162,7 +162,7 @@ module _ (room : ℕ) (links texts : List ℕ) (s : Sound room links texts) (exa
         let p = past m le.1 g2 in
         let q = get_or_past texts (text_at y + 2) 0 (omega arith) in
         let r = get_or_past texts (text_at y + 1) 0 (omega arith) in
-        sym (lost_high texts y h ∙ ap (λ (k : ℕ). drop (get_or texts (text_at y + 1) 0) (take k (drop (text_at y + 3) texts))) q ∙ ap (λ (k : ℕ). drop k []) r)
+        sym (lost_in_is texts y h ∙ ap (λ (k : ℕ). drop (get_or texts (text_at y + 1) 0) (take k (drop (text_at y + 3) texts))) q ∙ ap (λ (k : ℕ). drop k []) r)
 
 -- how the test of a list is told by the library
 pub has_same : (k : ℕ) (xs : List ℕ) → list_any (λ y. eqb y k) xs ≡ has k xs

@@ -1,9 +1,9 @@
 -- What the changes of own lists make of them. Assumes nothing.
-use Rattle.std.specs.Prelude.{◌≡◌, ℕ, ◌+◌, ◌<◌, ◌≤◌, Bool, cond, List, [], ◌∷◌, ◌++◌, length, Option, Some, None}
+use Rattle.std.specs.Prelude.{◌≡◌, ℕ, ◌+◌, ◌<◌, ◌≤◌, Bool, cond, List, [], ◌∷◌, ◌++◌}
 use Rattle.rings.specs.Rings.{at, Lacks, drop_at}
 use Rattle.network.specs.Clauses.{front, has, last, without}
 use Rattle.slots.specs.Slots.{filled_by_last}
-use Rattle.owned.specs.Lists.{own, lost, text, listed, At}
+use Rattle.owned.specs.Lists.{own, lost, text, listed}
 use Rattle.owned.specs.declared.owned.Owned.{Owned}
 
 -- the clauses and what uses have their slots at stay

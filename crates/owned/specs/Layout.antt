@@ -2,7 +2,7 @@
 -- Heads of rings: own lists at 0 to 2047, the free slots at 2048, the lost ones at 2049. Slot x of `room` slots is the node x, from 2050 on.
 -- It has 35 words of its own: the head of its ring, the length of its clause, the length of that with what it lost, then its literals, and
 -- behind them those that it lost.
-use Rattle.std.specs.Prelude.{◌≡◌, ℕ, ◌+◌, ◌-◌, ◌*◌, ◌<◌, ◌≤◌, ◌≢◌, true, cond, ◌&&◌, List, [], ◌∷◌, ◌++◌, length, take, drop, nat_lt, nat_le, slice_index, slice_index_or}
+use Rattle.std.specs.Prelude.{◌≡◌, ℕ, ◌+◌, ◌-◌, ◌*◌, ◌<◌, ◌≤◌, ◌≢◌, true, cond, ◌&&◌, List, [], ◌++◌, length, take, drop, nat_lt, nat_le, slice_index, slice_index_or}
 use Rattle.std.specs.List.{AllByRecursion}
 use Rattle.rings.specs.Rings.{ring, next, Held}
 use Rattle.network.specs.Clauses.{front, has, last, well_formed}

@@ -1,5 +1,5 @@
 -- What own lists hold. Assumes nothing.
-use Rattle.std.specs.Prelude.{◌≡◌, ℕ, ◌+◌, ◌<◌, ◌≤◌, List, length, slice_index}
+use Rattle.std.specs.Prelude.{◌≡◌, ℕ, ◌+◌, ◌<◌, List, length, slice_index}
 use Rattle.owned.specs.Totals.{total}
 use Rattle.owned.specs.Layout.{own_at, lost_at, clause_in, listed_in}
 use Rattle.owned.specs.declared.owned.Owned.{Owned}

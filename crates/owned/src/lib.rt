@@ -6,8 +6,16 @@
 // Rests on `rings` (lists in words), `clause` and `image` (what a clause is).
 #![tactic(auto)]
 
+ghost use Rattle.owned.specs.Laws.{OwnLaws};
+ghost use Rattle.owned.specs.declared.owned.Owned.{Owned};
+
 pub mod changes;
 mod lists;
 pub mod owned;
 pub mod questions;
 mod words;
+
+// What holds of all own lists, whatever was done to them.
+pub fn own_laws()
+    ensures { (o : Owned) → OwnLaws o }
+{}

@@ -39,8 +39,10 @@ impl Owned<'_> {
 
     // The slot after x in its own list.
     pub fn next(&self, x: u32) -> Option<u32>
-        ensures { (l i : ℕ) → At self.now x l i → elim result [ None ↦ length (own self.now l) ≡ i + 1 | Some y ↦ At self.now y l (i + 1) ] }
+        ensures says { (l i : ℕ) → At self.now x l i → elim result [ None ↦ length (own self.now l) ≡ i + 1 | Some y ↦ At self.now y l (i + 1) ] }
+        ensures absent { ((l i : ℕ) → At self.now x l i → ⊥) → result ≡ None }
     {
+        self.home(x)?;
         after(self.links, HEADS, x)
     }
 

@@ -1,7 +1,7 @@
-use Rattle.std.proofs.Common.{◌≡◌, ◌<◌, ℕ, List, arith, ◌∙◌, ap, length, refl, set, subst, sym}
+use Rattle.std.proofs.Common.{◌<◌, ℕ, List, arith, ◌∙◌, length, subst, sym}
 use Rattle.rings.specs.Rings.{Place}
-use Rattle.owned.specs.Layout.{Kin, Whole, lost_at, node_count, rg, text_at}
-use Rattle.owned.proofs.Frees.{freed_kin, freed_shorter, freed_whole, free_inside, kin_none, kin_then}
+use Rattle.owned.specs.Layout.{node_count, rg}
+use Rattle.owned.proofs.Frees.{freed_kin, freed_shorter, freed_whole, free_inside, kin_then}
 use Rattle.owned.proofs.Goes.{first_none, first_some}
 use Rattle.owned.proofs.Wholes.{lost_bare, lost_is}
 use Rattle.owned.proofs.words.free_all.Goals as goal

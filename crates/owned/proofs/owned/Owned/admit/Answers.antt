@@ -1,4 +1,4 @@
-use Rattle.std.proofs.Common.{◌≡◌, ℕ, ◌-◌, ◌<◌, true, Some, List, is_some, ltb, length, get_or, sym, ap, refl, ◌∙◌, subst, arith}
+use Rattle.std.proofs.Common.{◌≡◌, ℕ, ◌-◌, ◌<◌, true, is_some, length, get_or, sym, ap, refl, ◌∙◌, subst, arith}
 use Rattle.rings.specs.Rings.{Place}
 use Rattle.network.specs.Clauses.{last, well_formed}
 use Rattle.rules.proofs.Formed.{formed_parts}

@@ -1,4 +1,4 @@
-use Rattle.std.proofs.Common.{◌≡◌, ℕ, ◌∙◌, sym, arith}
+use Rattle.std.proofs.Common.{◌≡◌, ◌∙◌, sym}
 use Rattle.owned.specs.Layout.{lost_in}
 use Rattle.owned.proofs.Asks.{unwrapped}
 use Rattle.owned.proofs.Stands.{stands}

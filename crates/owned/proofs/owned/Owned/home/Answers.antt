@@ -1,5 +1,4 @@
-use Rattle.std.proofs.Common.{◌≡◌, ℕ, ◌+◌, ◌*◌, ◌<◌, ◌≤◌, length, get_or, sym, ap, ◌∙◌, arith}
-use Rattle.owned.specs.Layout.{home, text_at}
+use Rattle.std.proofs.Common.{◌≡◌, ℕ, get_or, ap, ◌∙◌, arith}
 use Rattle.owned.proofs.Stands.{by_home, no_literal, of_room, past_room}
 use Rattle.owned.proofs.owned.Owned.home.Goals as goal
 

@@ -1,4 +1,4 @@
-use Rattle.std.proofs.Common.{◌≡◌, length, ap, arith}
+use Rattle.std.proofs.Common.{length, ap, arith}
 use Rattle.std.proofs.lemmas.Bool.Decides.{nat_tests}
 use Rattle.owned.proofs.Texts.{listed_length}
 use Rattle.owned.proofs.owned.Owned.is_listed.Goals as goal

@@ -1,4 +1,4 @@
-use Rattle.std.proofs.Common.{◌≡◌, ◌*◌, ◌≤◌, length, take, ◌∙◌, arith, rules}
+use Rattle.std.proofs.Common.{◌∙◌, rules}
 use Rattle.owned.proofs.Fills.{cleared_kept}
 use Rattle.owned.proofs.owned.Owned.new.Goals as goal
 

@@ -1,7 +1,6 @@
-use Rattle.std.proofs.Common.{◌≡◌, ℕ, ap, sym, ◌∙◌, refl, set, List, not, eqb, arith}
+use Rattle.std.proofs.Common.{◌≡◌, ℕ, ap, ◌∙◌, refl, set, List, not, eqb, arith}
 use Rattle.std.specs.Bool.{then_some}
 use Rattle.owned.specs.Lists.{At}
-use Rattle.owned.specs.Layout.{text_at}
 use Rattle.rings.specs.Rings.{prev, put_in, swapped_out}
 use Rattle.owned.proofs.Leaves.{alive, inside}
 use Rattle.owned.proofs.Releases.{prev_inside, released, released_kept, released_next}

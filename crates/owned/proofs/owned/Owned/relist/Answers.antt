@@ -1,4 +1,4 @@
-use Rattle.std.proofs.Common.{◌≡◌, ℕ, refl, arith}
+use Rattle.std.proofs.Common.{ℕ, refl, arith}
 use Rattle.owned.specs.Lists.{At}
 use Rattle.owned.proofs.Leaves.{inside}
 use Rattle.owned.proofs.Relists.{relisted, relisted_kept}

@@ -1,4 +1,4 @@
-use Rattle.std.proofs.Common.{◌≡◌, ℕ, ◌+◌, ◌-◌, List, length, take, drop, sym, ap, refl, ◌∙◌, subst, arith}
+use Rattle.std.proofs.Common.{◌≡◌, ℕ, ◌+◌, ◌-◌, List, length, take, drop, sym, ap, refl, ◌∙◌, arith}
 use Rattle.clause.specs.Written.{Front}
 use Rattle.network.specs.Clauses.{front, has, without}
 use Rattle.owned.specs.Lists.{At, text}

@@ -1,4 +1,4 @@
-use Rattle.std.proofs.Common.{◌≡◌, ℕ, ◌∙◌, sym, arith, inl, inr}
+use Rattle.std.proofs.Common.{◌≡◌, ◌∙◌, sym, arith, inl, inr}
 use Rattle.owned.specs.Lists.{text}
 use Rattle.owned.proofs.Asks.{unwrapped}
 use Rattle.owned.proofs.Stands.{stands}
