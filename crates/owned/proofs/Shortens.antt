@@ -17,7 +17,7 @@ use Rattle.owned.specs.declared.owned.Owned.{Owned}
 use Rattle.owned.specs.Layout.{rg, text_at, home, clause_in, lost_in, listed_in}
 use Rattle.owned.specs.Lists.{At, listed, text}
 use Rattle.owned.specs.Effects.{Shortened}
-use Rattle.owned.proofs.Besides.{Beside, beside_clause, beside_listed, beside_set}
+use Rattle.owned.proofs.Besides.{Beside, beside_listed, beside_set, beside_texts, clause_by}
 use Rattle.owned.proofs.Drops.{behind, dropped_fewer, dropped_small, dropped_words, listed_kept}
 use Rattle.owned.proofs.Leaves.{Facts, inside, literal, ringed, slot, whole}
 use Rattle.owned.proofs.Rewrites.{Anew, anew_kept}
@@ -124,7 +124,7 @@ module _ (s : Owned) (l i x : ℕ) (a : At s x l i) where
         drop-set-lt (b + 3) mid (b + 1) m (omega arith) ∙ ap (λ (n : ℕ). drop n mid) (sym t) ∙ drop-append_seam (take (b + 3) old) ((W ++ (k ∷ [])) ++ R) ∙ append_assoc W (k ∷ []) R
 
     here : clause_in ts x ≡ W
-    here = clause_is ts x (slot s l i x a).0 ∙ ap (λ (n : ℕ). take n (drop (b + 3) ts)) size ∙ ap (take m) words ∙ take-append_seam W (k ∷ R)
+    here = clause_by ts x m W (slot s l i x a).0 size (ap (take m) words ∙ take-append_seam W (k ∷ R))
 
     more : w ≡ m + suc j
     more = let z = sizes in let z0 = z.0 in let n = length_is in let f = fewer in omega arith
@@ -195,10 +195,7 @@ module _ (s : Owned) (l i x : ℕ) (a : At s x l i) where
             room = c;
             owns = λ n. rw (c, d) refl;
             losts = rw (c, d) refl;
-            texts = λ y. rw q (elim (cases_eq y x) [
-              | inl o ↦ ap (clause_in ts) o ∙ here ∙ sym (at_here (text s) x W y o)
-              | inr ne ↦ beside_clause old ts x (slot s l i x a).0 only z y ne ∙ sym (at_else (text s) x W y ne)
-            ]);
+            texts = λ y. rw q (beside_texts old ts x (slot s l i x a).0 only z W here y);
             listings = λ y n. rw q (elim (cases_eq y x) [
               | inl o ↦ ap (λ (u : ℕ). has n (listed_in ts u)) o ∙ listed_now n ∙ ap (λ (u : ℕ). has n (listed s u)) (sym o)
               | inr ne ↦ ap (has n) (beside_listed old ts x (slot s l i x a).0 only z y ne)
