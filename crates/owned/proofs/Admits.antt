@@ -1,18 +1,16 @@
 -- A clause put into a free slot. Assumes nothing.
-use Rattle.std.proofs.Common.{◌≡◌, ℕ, ◌+◌, ◌<◌, ◌≤◌, Bool, true, false, ◌&&◌, ltb, List, [], ◌∷◌, ◌++◌, length, get_or, take, drop, set, Some, None, sym, ap, ◌∙◌, subst, inl, inr, arith}
+use Rattle.std.proofs.Common.{◌≡◌, ℕ, ◌+◌, ◌<◌, ◌≤◌, Bool, true, false, ◌&&◌, ltb, List, [], ◌∷◌, ◌++◌, length, get_or, take, set, Some, None, sym, ap, ◌∙◌, subst, arith}
 use Rattle.std.specs.List.{AllByRecursion}
-use Rattle.std.proofs.lemmas.Bool.{cases_eq, lt-ltb, le-ltb, and_from, and_right}
-use Rattle.std.proofs.lemmas.List.{append-nil, drop-set-lt, get_or-set_other, get_or-set_same, length_push}
-use Rattle.std.proofs.Math.Seq.{drop-length}
+use Rattle.std.proofs.lemmas.Bool.{lt-ltb, le-ltb, and_from, and_right}
+use Rattle.std.proofs.lemmas.List.{drop-set-lt, get_or-set_other, get_or-set_same, length_push}
 use Rattle.rings.specs.Rings.{drop_at, shifted, slot_after, Lacks, Place}
 use Rattle.rings.proofs.Bounds.{place_in}
-use Rattle.rings.proofs.Drops.{at_else, at_here}
 use Rattle.network.specs.Clauses.{front, last, well_formed}
 use Rattle.rules.proofs.Formed.{Formed, formed_parts}
 use Rattle.owned.specs.declared.owned.Owned.{Owned}
 use Rattle.owned.specs.Totals.{total}
-use Rattle.owned.specs.Layout.{node_count, rg, text_at, home, clause_in, lost_in, listed_in, own_at, Whole, Written}
-use Rattle.owned.specs.Lists.{kept, text, listed}
+use Rattle.owned.specs.Layout.{node_count, rg, text_at, home, clause_in, lost_in, own_at, Whole, Written}
+use Rattle.owned.specs.Lists.{kept}
 use Rattle.owned.specs.Effects.{Admitted}
 use Rattle.owned.proofs.Besides.{Beside, beside_listings, beside_rewritten, beside_set, beside_texts, clause_by, listed_by, none_lost}
 use Rattle.owned.proofs.Goes.{Went, first_none, first_some, shift_went, went_else, went_to, went_whole}

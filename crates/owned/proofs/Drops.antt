@@ -1,8 +1,8 @@
 -- A clause that lost a literal before its last, and what uses may have then. Assumes nothing.
-use Rattle.std.proofs.Common.{◌≡◌, ℕ, suc, ◌+◌, ◌-◌, ◌<◌, Bool, true, ◌||◌, eqb, List, [], ◌∷◌, ◌++◌, length, take, drop, set, sym, refl, ap, ◌∙◌, subst, inl, inr, ⊎_elim, arith}
+use Rattle.std.proofs.Common.{◌≡◌, ℕ, suc, ◌+◌, ◌-◌, ◌<◌, Bool, true, eqb, List, [], ◌∷◌, ◌++◌, length, take, drop, set, sym, refl, ap, ◌∙◌, subst, inl, inr, ⊎_elim, arith}
 use Rattle.std.specs.List.{list_any}
 use Rattle.std.proofs.Math.Seq.{drop-append_seam, take-append-add}
-use Rattle.std.proofs.lemmas.Bool.{cases_eq, cases_Bool, eq-eqb, ne_eqb}
+use Rattle.std.proofs.lemmas.Bool.{cases_eq, cases_Bool}
 use Rattle.std.proofs.lemmas.List.{length-drop, set-append_right}
 use Rattle.network.specs.Assignments.{node}
 use Rattle.network.specs.Clauses.{front, has, last, without}
@@ -16,8 +16,8 @@ use Rattle.rules.proofs.Verdicts.{without_length}
 use Rattle.owned.proofs.Texts.{front_take, has_same}
 
 -- whether the literals but the last have one
-pub any_front : (k : ℕ) (C : List ℕ) → list_any (λ y. eqb y k) (take (length C - 1) C) ≡ has k (front C)
-any_front k C = ap (list_any (λ y. eqb y k)) (front_take C) ∙ has_same k (front C)
+pub any_front : (k : ℕ) (C D : List ℕ) → C ≡ D → list_any (λ y. eqb y k) (take (length C - 1) C) ≡ has k (front D)
+any_front k C D e = ap (list_any (λ y. eqb y k)) (front_take C) ∙ has_same k (front C) ∙ ap (λ (E : List ℕ). has k (front E)) e
 
 -- two tests that follow from each other
 same_by : (p q : Bool) → (p ≡ true → q ≡ true) → (q ≡ true → p ≡ true) → p ≡ q

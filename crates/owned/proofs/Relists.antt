@@ -1,14 +1,12 @@
 -- What a slot lost forgotten by uses. Assumes nothing.
-use Rattle.std.proofs.Common.{◌≡◌, ℕ, ◌+◌, ◌<◌, ◌≤◌, List, [], ◌++◌, length, get_or, take, drop, set, sym, refl, ap, ◌∙◌, subst, inl, inr, arith}
+use Rattle.std.proofs.Common.{◌≡◌, ℕ, ◌+◌, ◌<◌, ◌≤◌, List, [], get_or, take, set, sym, refl, ap, ◌∙◌, subst, inl, inr, arith}
 use Rattle.std.specs.List.{AllByRecursion}
-use Rattle.std.proofs.Math.ListN.{drop_of_length-le}
 use Rattle.std.proofs.lemmas.Bool.{cases_eq}
-use Rattle.std.proofs.lemmas.List.{append-nil, drop-set-lt, get_or-set_other, get_or-set_same, length-take}
-use Rattle.rings.proofs.Drops.{at_else, at_here}
+use Rattle.std.proofs.lemmas.List.{drop-set-lt, get_or-set_other, get_or-set_same}
 use Rattle.network.specs.Clauses.{front, last, well_formed}
 use Rattle.owned.specs.declared.owned.Owned.{Owned}
-use Rattle.owned.specs.Layout.{text_at, clause_in, lost_in, listed_in}
-use Rattle.owned.specs.Lists.{At, listed, text}
+use Rattle.owned.specs.Layout.{text_at, clause_in, lost_in}
+use Rattle.owned.specs.Lists.{At, text}
 use Rattle.owned.specs.Effects.{Relisted}
 use Rattle.owned.proofs.Besides.{Beside, beside_clause, beside_listings, beside_none, beside_set, clause_by, listed_by, none_lost}
 use Rattle.owned.proofs.Leaves.{Facts, inside, slot}

@@ -7,7 +7,6 @@ use Rattle.std.proofs.Math.Seq.{drop-append_seam, take-append_seam}
 use Rattle.std.proofs.lemmas.Bool.{cases_eq}
 use Rattle.std.proofs.lemmas.List.{append_assoc, drop-set-lt, drop-take, get_or-set_other, get_or-set_same, length-append, length-drop, length-take-le, places}
 use Rattle.std.proofs.lemmas.Slice.{overwrites}
-use Rattle.rings.proofs.Drops.{at_else, at_here}
 use Rattle.network.specs.Clauses.{front, has, last, well_formed, without}
 use Rattle.network.specs.Lists.{In}
 use Rattle.network.proofs.Lists.{has_in}
