@@ -15,7 +15,7 @@ pub(crate) const FREE: u32 = 2048;
 pub(crate) const LOST: u32 = 2049;
 
 // How many heads there are, and the node of the first slot.
-pub const HEADS: u32 = 2050;
+pub(crate) const HEADS: u32 = 2050;
 
 // How many words a slot has: the head of its ring, the length of its clause, that with what it lost, and its literals.
 pub(crate) const SLOT: usize = 35;
