@@ -26,6 +26,7 @@ same_by p q f g = elim (cases_Bool p) [
   | inr n ↦ elim (cases_Bool q) [ inl t ↦ g t ∙ sym t | inr m ↦ n ∙ sym m ]
 ]
 
+-- a literal k before the last of C
 module _ (k : ℕ) (C : List ℕ) (f : Formed C) (h : In k (front C)) where
   abbrev W : List ℕ
   W = without k C
@@ -53,6 +54,7 @@ module _ (k : ℕ) (C : List ℕ) (f : Formed C) (h : In k (front C)) where
       (λ i. in_right j (front W) (k ∷ D) (inr i))
       (in_cases j (front C) D (has_in j (front C ++ D) t))))
 
+  -- it is a literal, and it is one
   pub dropped_small : k < 2048
   dropped_small = let a = front_below C f.order k h in let b = f.small in omega arith
 

@@ -35,6 +35,7 @@ module _ (s : Owned) (l i x : ℕ) (a : At s x l i) where
   abbrev stands : Sound s.room links texts
   stands = all_stands s
 
+  -- there is room, what is said of the words holds, and the slot and its words are there
   pub some : 0 < s.room
   some = at_room s.room links texts stands x l i a
 
@@ -56,6 +57,7 @@ module _ (s : Owned) (l i x : ℕ) (a : At s x l i) where
   pub stood : Place 2050 (node_count s.room) links l i x
   stood = record { held = whole.held; head = let p = literal in omega arith; within = ringed.0; is = ringed.1 }
 
+  -- a clause is there to be taken out
   pub alive : 0 < s.live
   alive =
       let g = total_ge 2048 (λ n. length (own s n)) l literal in
@@ -72,6 +74,7 @@ module _ (s : Owned) (l i x : ℕ) (a : At s x l i) where
     left_whole =
         went_whole g texts texts' whole (head_rewritten texts x h slot.0 (let z = inside in omega arith) b.0 (at_sizes s.room links texts stands x l i a))
 
+    -- the own lists then, how many clauses they have, and the lost slots
     pub left_owns : (n : ℕ) → own_at s.room new n ≡ at (own s) l (f (own s l)) n
     left_owns = own_changed s.room links some new l f literal (went_from g) (λ n k ne. let b0 = b.0 in went_else g n (omega arith) ne (λ q. omega arith))
 
@@ -91,6 +94,7 @@ module _ (s : Owned) (l i x : ℕ) (a : At s x l i) where
     pub left_lost : h ≡ 2049 → lost_at s.room new ≡ lost s ++ (x ∷ [])
     left_lost e = lost_is s.room new some ∙ ap (rg s.room new) (sym e) ∙ went_to g ∙ ap (λ (n : ℕ). Q n ++ (x ∷ [])) e ∙ ap (λ (ys : List ℕ). ys ++ (x ∷ [])) (sym (lost_is s.room links some))
 
+    -- the texts are those of before
     pub left_same : (t : Owned) → t.texts.now ≡ texts' → SameTexts s t
     left_same t e = record {
       texts = λ y. rw e (all_clauses s.room links texts texts' stands s.exact (head_length texts x h slot.0) (head_body texts x h slot.0) y);

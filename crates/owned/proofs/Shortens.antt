@@ -24,6 +24,7 @@ use Rattle.owned.proofs.Stands.{stands}
 use Rattle.owned.proofs.Texts.{Sized, all_sized, clause_is, lost_in_is}
 use Rattle.owned.proofs.Wholes.{at_end, at_sizes, at_well}
 
+-- slot x at place i of the own list of l
 module _ (s : Owned) (l i x : ℕ) (a : At s x l i) where
   abbrev old : List ℕ
   old = s.texts.now
