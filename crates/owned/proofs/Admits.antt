@@ -1,25 +1,22 @@
 -- A clause put into a free slot. Assumes nothing.
-use Rattle.std.proofs.Common.{◌≡◌, ℕ, ◌+◌, ◌<◌, ◌≤◌, Bool, true, false, ◌&&◌, ltb, List, [], ◌∷◌, ◌++◌, length, get_or, take, drop, set, Some, None, sym, ap, ◌∙◌, subst, inl, inr, arith}
+use Rattle.std.proofs.Common.{◌≡◌, ℕ, ◌+◌, ◌<◌, ◌≤◌, Bool, true, false, ◌&&◌, ltb, List, [], ◌∷◌, ◌++◌, length, get_or, take, set, Some, None, sym, ap, ◌∙◌, subst, arith}
 use Rattle.std.specs.List.{AllByRecursion}
-use Rattle.std.proofs.lemmas.Bool.{cases_eq, lt-ltb, le-ltb, and_from, and_right}
-use Rattle.std.proofs.lemmas.List.{append-nil, drop-set-lt, get_or-set_other, get_or-set_same, length_push}
-use Rattle.std.proofs.Math.Seq.{drop-length}
+use Rattle.std.proofs.lemmas.Bool.{lt-ltb, le-ltb, and_from, and_right}
+use Rattle.std.proofs.lemmas.List.{drop-set-lt, get_or-set_other, get_or-set_same, length_push}
 use Rattle.rings.specs.Rings.{drop_at, shifted, slot_after, Lacks, Place}
 use Rattle.rings.proofs.Bounds.{place_in}
-use Rattle.rings.proofs.Drops.{at_else, at_here}
 use Rattle.network.specs.Clauses.{front, last, well_formed}
 use Rattle.rules.proofs.Formed.{Formed, formed_parts}
 use Rattle.owned.specs.declared.owned.Owned.{Owned}
 use Rattle.owned.specs.Totals.{total}
-use Rattle.owned.specs.Layout.{node_count, rg, text_at, home, clause_in, lost_in, listed_in, own_at, Whole, Written}
-use Rattle.owned.specs.Lists.{kept, text, listed}
+use Rattle.owned.specs.Layout.{node_count, rg, text_at, home, clause_in, lost_in, own_at, Whole, Written}
+use Rattle.owned.specs.Lists.{kept}
 use Rattle.owned.specs.Effects.{Admitted}
-use Rattle.owned.proofs.Besides.{Beside, beside_clause, beside_listed, beside_rewritten, beside_set}
-use Rattle.owned.proofs.Goes.{Went, first_none, first_some, shift_went, went_else, went_to}
+use Rattle.owned.proofs.Besides.{Beside, beside_listings, beside_rewritten, beside_set, beside_texts, clause_by, listed_by, none_lost}
+use Rattle.owned.proofs.Goes.{Went, first_none, first_some, shift_went, went_else, went_to, went_whole}
 use Rattle.owned.proofs.Leaves.{Facts}
-use Rattle.owned.proofs.Moves.{moved_whole}
-use Rattle.owned.proofs.Stands.{kept_few, stands}
-use Rattle.owned.proofs.Texts.{all_sized, clause_is, lost_in_is}
+use Rattle.owned.proofs.Stands.{stands}
+use Rattle.owned.proofs.Texts.{all_sized}
 use Rattle.owned.proofs.Totals.{total_at}
 use Rattle.owned.proofs.Wholes.{kept_free, lost_by, lost_is, own_by, own_changed, own_total, ring_lacks}
 
@@ -48,7 +45,7 @@ module _ (s : Owned) (some : 0 < s.room) where
   free_fits z b t = let k = kept_free s.room links s.texts.now (stands s) some in and_from b (ltb (kept s) s.room) t (lt-ltb (kept s) s.room (omega arith))
 
   pub live_few : s.live ≤ s.room
-  live_few = let k = kept_few s in let e = s.alive in omega arith
+  live_few = let k = kept_free s.room links s.texts.now (stands s) some in let e = s.alive in omega arith
 
   module _ (x : ℕ) (p : Place 2050 (node_count s.room) links 2048 0 x) where
     pub free_slot : (2050 ≤ x) × (x < 2050 + s.room)
@@ -89,29 +86,21 @@ module _ (s : Owned) (some : 0 < s.room) where
       was : get_or ts (text_at x + 2) 0 ≡ length C
       was = get_or-set_other us (text_at x) (text_at x + 2) c 0 (λ e. omega arith) ∙ wr.was
 
-      words : take (length C) (drop (text_at x + 3) ts) ≡ C
-      words = ap (take (length C)) (drop-set-lt (text_at x + 3) us (text_at x) c (omega arith)) ∙ wr.text
-
       here : clause_in ts x ≡ C
-      here = clause_is ts x free_slot.0 ∙ ap (λ (n : ℕ). take n (drop (text_at x + 3) ts)) size ∙ words
+      here = clause_by ts x (length C) C free_slot.0 size (ap (take (length C)) (drop-set-lt (text_at x + 3) us (text_at x) c (omega arith)) ∙ wr.text)
 
       none : lost_in ts x ≡ []
-      none = lost_in_is ts x free_slot.0 ∙ ap (λ (n : ℕ). drop n (take (get_or ts (text_at x + 2) 0) (drop (text_at x + 3) ts))) size ∙ ap (λ (n : ℕ). drop (length C) (take n (drop (text_at x + 3) ts))) was ∙ ap (drop (length C)) words ∙ drop-length C
-
-      listed_here : listed_in ts x ≡ front C
-      unfolding listed_in
-      listed_here = ap (λ (D : List ℕ). front D ++ lost_in ts x) here ∙ ap (λ (D : List ℕ). front C ++ D) none ∙ append-nil (front C)
+      none = none_lost ts x (length C) free_slot.0 size was
 
       whole' : Whole s.room new ts
       whole' =
-          moved_whole s.room links s.texts.now whole 2048 0 x p.head p.within p.is (drop_at 0 (Q 2048)) went.out c went.head new ts went.long went.held went.rings
-          (beside_rewritten s.texts.now ts x c free_slot.0 only named (let a = size in let b = was in let z = f.short in (omega arith, omega arith)) (λ q. (ap well_formed here ∙ good, ap last here, subst (AllByRecursion (λ k. k < 2048)) (sym none) tt)))
+          went_whole went s.texts.now ts whole (beside_rewritten s.texts.now ts x c free_slot.0 only named (let a = size in let b = was in let z = f.short in (omega arith, omega arith)) (λ q. (ap well_formed here ∙ good, ap last here, subst (AllByRecursion (λ k. k < 2048)) (sym none) tt)))
 
       more : total 2048 (λ l. length (own_at s.room new l)) ≡ s.live + 1
       more =
           let z = f.small in
-          let t = total_at 2048 (λ n. length (Q n)) (λ n. length (rg s.room new n)) c f.small (λ n k ne. ap length (went_else s.room links new 2048 0 x (drop_at 0 (Q 2048)) c went n (omega arith) (λ q. omega arith) ne)) in
-          let e = ap length (went_to s.room links new 2048 0 x (drop_at 0 (Q 2048)) c went) ∙ length_push (Q c) x in
+          let t = total_at 2048 (λ n. length (Q n)) (λ n. length (rg s.room new n)) c f.small (λ n k ne. ap length (went_else went n (omega arith) (λ q. omega arith) ne)) in
+          let e = ap length (went_to went) ∙ length_push (Q c) x in
           let a = own_total s.room links some in
           let b = own_total s.room new some in
           let d = s.alive in
@@ -134,14 +123,8 @@ module _ (s : Owned) (some : 0 < s.room) where
             room = r;
             fresh = own_by (λ l xs. Lacks x xs) s.room links (λ l. tt) (λ _ l h. free_lacks l (omega arith) (λ q. omega arith));
             found = lost_by (λ xs. Lacks x xs) s.room links tt (λ _. free_lacks 2049 (omega arith) (λ q. omega arith));
-            owns = λ l. rw (r, q) (own_changed s.room links some new c (λ ys. ys ++ (x ∷ [])) f.small (went_to s.room links new 2048 0 x (drop_at 0 (Q 2048)) c went) (λ n k ne. went_else s.room links new 2048 0 x (drop_at 0 (Q 2048)) c went n (omega arith) (λ q. omega arith) ne) l);
-            losts = rw (r, q) (lost_is s.room new some ∙ went_else s.room links new 2048 0 x (drop_at 0 (Q 2048)) c went 2049 (omega arith) (λ q. omega arith) (λ q. omega arith) ∙ sym (lost_is s.room links some));
-            texts = λ y. rw v (elim (cases_eq y x) [
-              | inl m ↦ ap (clause_in ts) m ∙ here ∙ sym (at_here (text s) x C y m)
-              | inr n ↦ beside_clause s.texts.now ts x free_slot.0 only sizes y n ∙ sym (at_else (text s) x C y n)
-            ]);
-            listings = λ y. rw v (elim (cases_eq y x) [
-              | inl m ↦ ap (listed_in ts) m ∙ listed_here ∙ sym (at_here (listed s) x (front C) y m)
-              | inr n ↦ beside_listed s.texts.now ts x free_slot.0 only sizes y n ∙ sym (at_else (listed s) x (front C) y n)
-            ]);
+            owns = λ l. rw (r, q) (own_changed s.room links some new c (λ ys. ys ++ (x ∷ [])) f.small (went_to went) (λ n k ne. went_else went n (omega arith) (λ q. omega arith) ne) l);
+            losts = rw (r, q) (lost_is s.room new some ∙ went_else went 2049 (omega arith) (λ q. omega arith) (λ q. omega arith) ∙ sym (lost_is s.room links some));
+            texts = λ y. rw v (beside_texts s.texts.now ts x free_slot.0 only sizes C here y);
+            listings = λ y. rw v (beside_listings s.texts.now ts x free_slot.0 only sizes (front C) (listed_by ts x C here none) y);
           }

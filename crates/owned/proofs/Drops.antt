@@ -16,8 +16,8 @@ use Rattle.rules.proofs.Verdicts.{without_length}
 use Rattle.owned.proofs.Texts.{front_take, has_same}
 
 -- whether the literals but the last have one
-pub any_front : (k : ℕ) (C : List ℕ) → list_any (λ y. eqb y k) (take (length C - 1) C) ≡ has k (front C)
-any_front k C = ap (list_any (λ y. eqb y k)) (front_take C) ∙ has_same k (front C)
+pub any_front : (k : ℕ) (C D : List ℕ) → C ≡ D → list_any (λ y. eqb y k) (take (length C - 1) C) ≡ has k (front D)
+any_front k C D e = ap (list_any (λ y. eqb y k)) (front_take C) ∙ has_same k (front C) ∙ ap (λ (E : List ℕ). has k (front E)) e
 
 -- two tests that follow from each other
 same_by : (p q : Bool) → (p ≡ true → q ≡ true) → (q ≡ true → p ≡ true) → p ≡ q
@@ -26,6 +26,7 @@ same_by p q f g = elim (cases_Bool p) [
   | inr n ↦ elim (cases_Bool q) [ inl t ↦ g t ∙ sym t | inr m ↦ n ∙ sym m ]
 ]
 
+-- a literal k before the last of C
 module _ (k : ℕ) (C : List ℕ) (f : Formed C) (h : In k (front C)) where
   abbrev W : List ℕ
   W = without k C
@@ -53,6 +54,7 @@ module _ (k : ℕ) (C : List ℕ) (f : Formed C) (h : In k (front C)) where
       (λ i. in_right j (front W) (k ∷ D) (inr i))
       (in_cases j (front C) D (has_in j (front C ++ D) t))))
 
+  -- it is a literal, and it is one
   pub dropped_small : k < 2048
   dropped_small = let a = front_below C f.order k h in let b = f.small in omega arith
 

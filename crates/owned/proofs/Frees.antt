@@ -7,8 +7,8 @@ use Rattle.owned.specs.Layout.{node_count, rg, text_at, lost_at, own_at, Whole, 
 use Rattle.owned.specs.Effects.{Freed}
 use Rattle.owned.specs.Lists.{own}
 use Rattle.owned.specs.declared.owned.Owned.{Owned}
-use Rattle.owned.proofs.Goes.{Went, shift_went, went_else, went_from}
-use Rattle.owned.proofs.Moves.{head_rewritten, moved_whole}
+use Rattle.owned.proofs.Goes.{Went, shift_went, went_else, went_from, went_whole}
+use Rattle.owned.proofs.Moves.{head_rewritten}
 use Rattle.owned.proofs.Texts.{all_clauses, all_lost, all_sized, head_body, head_length, listed_same}
 use Rattle.owned.proofs.Leaves.{Facts}
 use Rattle.owned.proofs.Totals.{total_same}
@@ -46,8 +46,7 @@ module _ (room : ℕ) (links texts : List ℕ) (w : Whole room links texts) (exa
   free_inside = let a = slot.0 in let b = slot.1 in omega arith
 
   pub freed_whole : Whole room new texts'
-  freed_whole = moved_whole room links texts w 2049 0 x p.head p.within p.is left went.out 2048 went.head new texts' went.long went.held went.rings
-      (head_rewritten texts x 2048 slot.0 free_inside (omega arith) (all_sized room links texts sound exact x slot.0))
+  freed_whole = went_whole went texts texts' w (head_rewritten texts x 2048 slot.0 free_inside (omega arith) (all_sized room links texts sound exact x slot.0))
 
   pub freed_kin : Kin room links texts new texts'
   freed_kin =
@@ -55,13 +54,13 @@ module _ (room : ℕ) (links texts : List ℕ) (w : Whole room links texts) (exa
       let b = head_body texts x 2048 slot.0 in
       record {
         long = l;
-        owns = λ m h. went_else room links new 2049 0 x left 2048 went m (omega arith) (λ q. omega arith) (λ q. omega arith);
+        owns = λ m h. went_else went m (omega arith) (λ q. omega arith) (λ q. omega arith);
         clauses = all_clauses room links texts texts' sound exact l b;
         losts = all_lost room links texts texts' sound exact l b;
       }
 
   pub freed_shorter : length (rg room new 2049) < length (rg room links 2049)
-  freed_shorter = let e = ap length (went_from room links new 2049 0 x left 2048 went) in let d = went.out.less in omega arith
+  freed_shorter = let e = ap length (went_from went) in let d = went.out.less in omega arith
 
 -- what is said of own lists with all lost slots freed
 module _ (s : Owned) (links' texts' : List ℕ) (k : Kin s.room s.links.now s.texts.now links' texts') where

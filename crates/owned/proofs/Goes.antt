@@ -14,8 +14,8 @@ use Rattle.network.proofs.Lists.{has_in}
 use Rattle.rules.proofs.Answers.{has_from}
 use Rattle.slots.specs.Slots.{filled_by_last}
 use Rattle.slots.proofs.Slots.{swap_at, swap_else, swap_length}
-use Rattle.owned.specs.Layout.{node_count, rg}
-use Rattle.owned.proofs.Moves.{Out, carried, drop_out}
+use Rattle.owned.specs.Layout.{node_count, rg, Whole}
+use Rattle.owned.proofs.Moves.{Out, Rewritten, carried, drop_out, moved_whole}
 use Rattle.owned.proofs.Wholes.{has_place, place_of}
 
 -- a place to which the last came
@@ -88,7 +88,8 @@ pub record Went (room : ℕ) (old new : List ℕ) (m i x : ℕ) (left : List ℕ
   pub held : Held 2050 (node_count room) new
   pub rings : (l : ℕ) → l < 2050 → rg room new l ≡ carried (rg room old) m left h x l
 
-module _ (room : ℕ) (old new : List ℕ) (m i x : ℕ) (left : List ℕ) (h : ℕ) (g : Went room old new m i x left h) where
+-- what the rings have then
+module _ {room : ℕ} {old new : List ℕ} {m i x : ℕ} {left : List ℕ} {h : ℕ} (g : Went room old new m i x left h) where
   abbrev R : ℕ → List ℕ
   R = rg room old
 
@@ -103,6 +104,10 @@ module _ (room : ℕ) (old new : List ℕ) (m i x : ℕ) (left : List ℕ) (h : 
 
   pub went_else : (l : ℕ) → l < 2050 → (l ≡ m → ⊥) → (l ≡ h → ⊥) → rg room new l ≡ R l
   went_else l k a b = g.rings l k ∙ at_else F h (F h ++ (x ∷ [])) l b ∙ at_else R m left l a
+
+  -- and what holds of them with the slot's words written anew
+  pub went_whole : (texts texts' : List ℕ) → Whole room old texts → Rewritten texts texts' x h → Whole room new texts'
+  went_whole texts texts' w r = moved_whole room old texts w m i x g.stood.head g.stood.within g.stood.is left g.out h g.head new texts' g.long g.held g.rings r
 
 -- a slot shifted
 pub shift_went : (room : ℕ) (links : List ℕ) (m i x h : ℕ) → Place 2050 (node_count room) links m i x → h < 2050 → (m ≡ h → ⊥) → Went room links (shifted links h x) m i x (drop_at i (rg room links m)) h

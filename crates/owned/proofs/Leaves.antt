@@ -6,8 +6,8 @@ use Rattle.owned.specs.Totals.{total}
 use Rattle.owned.specs.Layout.{node_count, rg, text_at, own_at, lost_at, Whole, Sound}
 use Rattle.owned.specs.Lists.{At, own, lost}
 use Rattle.owned.specs.Effects.{SameTexts}
-use Rattle.owned.proofs.Goes.{Went, went_else, went_from, went_to}
-use Rattle.owned.proofs.Moves.{head_rewritten, moved_whole}
+use Rattle.owned.proofs.Goes.{Went, went_else, went_from, went_to, went_whole}
+use Rattle.owned.proofs.Moves.{head_rewritten}
 use Rattle.owned.proofs.Texts.{all_clauses, all_listed, head_body, head_length}
 use Rattle.owned.proofs.Totals.{total_at, total_ge}
 use Rattle.owned.proofs.Wholes.{at_literal, at_ring, at_room, at_sizes, at_slot, lost_is, own_changed, own_total}
@@ -35,6 +35,7 @@ module _ (s : Owned) (l i x : ℕ) (a : At s x l i) where
   abbrev stands : Sound s.room links texts
   stands = all_stands s
 
+  -- there is room, what is said of the words holds, and the slot and its words are there
   pub some : 0 < s.room
   some = at_room s.room links texts stands x l i a
 
@@ -56,6 +57,7 @@ module _ (s : Owned) (l i x : ℕ) (a : At s x l i) where
   pub stood : Place 2050 (node_count s.room) links l i x
   stood = record { held = whole.held; head = let p = literal in omega arith; within = ringed.0; is = ringed.1 }
 
+  -- a clause is there to be taken out
   pub alive : 0 < s.live
   alive =
       let g = total_ge 2048 (λ n. length (own s n)) l literal in
@@ -70,16 +72,16 @@ module _ (s : Owned) (l i x : ℕ) (a : At s x l i) where
 
     pub left_whole : Whole s.room new texts'
     left_whole =
-        moved_whole s.room links texts whole l i x g.stood.head ringed.0 ringed.1 (f (Q l)) g.out h g.head new texts' g.long g.held g.rings
-        (head_rewritten texts x h slot.0 (let z = inside in omega arith) b.0 (at_sizes s.room links texts stands x l i a))
+        went_whole g texts texts' whole (head_rewritten texts x h slot.0 (let z = inside in omega arith) b.0 (at_sizes s.room links texts stands x l i a))
 
+    -- the own lists then, how many clauses they have, and the lost slots
     pub left_owns : (n : ℕ) → own_at s.room new n ≡ at (own s) l (f (own s l)) n
-    left_owns = own_changed s.room links some new l f literal (went_from s.room links new l i x (f (Q l)) h g) (λ n k ne. let b0 = b.0 in went_else s.room links new l i x (f (Q l)) h g n (omega arith) ne (λ q. omega arith))
+    left_owns = own_changed s.room links some new l f literal (went_from g) (λ n k ne. let b0 = b.0 in went_else g n (omega arith) ne (λ q. omega arith))
 
     pub left_live : total 2048 (λ n. length (own_at s.room new n)) + 1 ≡ s.live
     left_live =
-        let t = total_at 2048 (λ n. length (Q n)) (λ n. length (rg s.room new n)) l literal (λ n k ne. let b0 = b.0 in ap length (went_else s.room links new l i x (f (Q l)) h g n (omega arith) ne (λ q. omega arith))) in
-        let e = ap length (went_from s.room links new l i x (f (Q l)) h g) in
+        let t = total_at 2048 (λ n. length (Q n)) (λ n. length (rg s.room new n)) l literal (λ n k ne. let b0 = b.0 in ap length (went_else g n (omega arith) ne (λ q. omega arith))) in
+        let e = ap length (went_from g) in
         let d = g.out.less in
         let p = own_total s.room links some in
         let q = own_total s.room new some in
@@ -87,11 +89,12 @@ module _ (s : Owned) (l i x : ℕ) (a : At s x l i) where
         omega arith
 
     pub left_free : h ≡ 2048 → lost_at s.room new ≡ lost s
-    left_free e = let p = literal in lost_is s.room new some ∙ went_else s.room links new l i x (f (Q l)) h g 2049 (omega arith) (λ q. omega arith) (λ q. omega arith) ∙ sym (lost_is s.room links some)
+    left_free e = let p = literal in lost_is s.room new some ∙ went_else g 2049 (omega arith) (λ q. omega arith) (λ q. omega arith) ∙ sym (lost_is s.room links some)
 
     pub left_lost : h ≡ 2049 → lost_at s.room new ≡ lost s ++ (x ∷ [])
-    left_lost e = lost_is s.room new some ∙ ap (rg s.room new) (sym e) ∙ (went_to s.room links new l i x (f (Q l)) h g) ∙ ap (λ (n : ℕ). Q n ++ (x ∷ [])) e ∙ ap (λ (ys : List ℕ). ys ++ (x ∷ [])) (sym (lost_is s.room links some))
+    left_lost e = lost_is s.room new some ∙ ap (rg s.room new) (sym e) ∙ went_to g ∙ ap (λ (n : ℕ). Q n ++ (x ∷ [])) e ∙ ap (λ (ys : List ℕ). ys ++ (x ∷ [])) (sym (lost_is s.room links some))
 
+    -- the texts are those of before
     pub left_same : (t : Owned) → t.texts.now ≡ texts' → SameTexts s t
     left_same t e = record {
       texts = λ y. rw e (all_clauses s.room links texts texts' stands s.exact (head_length texts x h slot.0) (head_body texts x h slot.0) y);

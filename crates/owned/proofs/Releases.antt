@@ -16,6 +16,7 @@ use Rattle.owned.proofs.Leaves.{Facts, Found, left_free, left_kept, left_owns, l
 use Rattle.owned.proofs.Stands.{stands}
 use Rattle.owned.proofs.Wholes.{kept_is, own_is}
 
+-- slot x at place i of the own list of l
 module _ (s : Owned) (l i x : ℕ) (a : At s x l i) where
   abbrev links : List ℕ
   links = s.links.now
@@ -23,6 +24,7 @@ module _ (s : Owned) (l i x : ℕ) (a : At s x l i) where
   abbrev new : List ℕ
   new = put_in (swapped_out links l x) 2048 x
 
+  -- the word that tells the last of the list is there
   pub prev_inside : 2 * l + 1 < length links
   prev_inside = let p = (whole s l i x a).held.0.1 in let q = literal s l i x a in omega arith
 
@@ -32,6 +34,7 @@ module _ (s : Owned) (l i x : ℕ) (a : At s x l i) where
   went : Went s.room links new l i x (filled_by_last 0 i (rg s.room links l)) 2048
   went = swap_went s.room links l i x 2048 (stood s l i x a) (omega arith) (let p = literal s l i x a in λ z. omega arith)
 
+  -- as the code writes it, where k is the place of the slot's words
   pub released_kept : (vs : List ℕ) → vs ≡ new → (k : ℕ) → k ≡ text_at x → Facts s.room vs (set s.texts.now k 2048) (s.live - 1)
   released_kept vs g k p = rw (g, p) (left_kept s l i x a 2048 far (filled_by_last 0 i) new went)
 

@@ -1,22 +1,22 @@
 -- What a slot lost forgotten by uses. Assumes nothing.
-use Rattle.std.proofs.Common.{◌≡◌, ℕ, ◌+◌, ◌<◌, ◌≤◌, List, [], ◌++◌, length, get_or, take, drop, set, sym, refl, ap, ◌∙◌, subst, inl, inr, arith}
+use Rattle.std.proofs.Common.{◌≡◌, ℕ, ◌+◌, ◌<◌, ◌≤◌, List, [], get_or, take, set, sym, refl, ap, ◌∙◌, subst, inl, inr, arith}
 use Rattle.std.specs.List.{AllByRecursion}
-use Rattle.std.proofs.Math.ListN.{drop_of_length-le}
 use Rattle.std.proofs.lemmas.Bool.{cases_eq}
-use Rattle.std.proofs.lemmas.List.{append-nil, drop-set-lt, get_or-set_other, get_or-set_same, length-take}
-use Rattle.rings.proofs.Drops.{at_else, at_here}
+use Rattle.std.proofs.lemmas.List.{drop-set-lt, get_or-set_other, get_or-set_same}
 use Rattle.network.specs.Clauses.{front, last, well_formed}
 use Rattle.owned.specs.declared.owned.Owned.{Owned}
-use Rattle.owned.specs.Layout.{text_at, clause_in, lost_in, listed_in, Sized}
-use Rattle.owned.specs.Lists.{At, listed, text}
+use Rattle.owned.specs.Layout.{text_at, clause_in, lost_in}
+use Rattle.owned.specs.Lists.{At, text}
 use Rattle.owned.specs.Effects.{Relisted}
-use Rattle.owned.proofs.Besides.{Beside, beside_clause, beside_listed, beside_none, beside_set}
+use Rattle.owned.proofs.Besides.{Beside, beside_clause, beside_listings, beside_none, beside_set, clause_by, listed_by, none_lost}
 use Rattle.owned.proofs.Leaves.{Facts, inside, slot}
 use Rattle.owned.proofs.Rewrites.{Anew, anew_kept}
 use Rattle.owned.proofs.Stands.{stands}
-use Rattle.owned.proofs.Texts.{all_sized, clause_is, lost_in_is}
+use Rattle.owned.specs.Layout.{Sized}
+use Rattle.owned.proofs.Texts.{all_sized, clause_is}
 use Rattle.owned.proofs.Wholes.{at_end, at_sizes, at_well}
 
+-- slot x at place i of the own list of l
 module _ (s : Owned) (l i x : ℕ) (a : At s x l i) where
   abbrev old : List ℕ
   old = s.texts.now
@@ -36,26 +36,13 @@ module _ (s : Owned) (l i x : ℕ) (a : At s x l i) where
   was : get_or ts (text_at x + 2) 0 ≡ n
   was = let p = inside s l i x a in get_or-set_same old (text_at x + 2) n 0 (omega arith)
 
-  rest : drop (text_at x + 3) ts ≡ drop (text_at x + 3) old
-  rest = drop-set-lt (text_at x + 3) old (text_at x + 2) n (omega arith)
-
   here : clause_in ts x ≡ text s x
   here =
       let h = (slot s l i x a).0 in
-      clause_is ts x h ∙ ap (λ (k : ℕ). take k (drop (text_at x + 3) ts)) size ∙ ap (take n) rest ∙ sym (clause_is old x h)
+      clause_by ts x n (text s x) h size (ap (take n) (drop-set-lt (text_at x + 3) old (text_at x + 2) n (omega arith)) ∙ sym (clause_is old x h))
 
   none : lost_in ts x ≡ []
-  none =
-      let t : List ℕ = take n (drop (text_at x + 3) ts) in
-      let short : length t ≤ n = simp length-take (omega arith) in
-      lost_in_is ts x (slot s l i x a).0
-      ∙ ap (λ (k : ℕ). drop k (take (get_or ts (text_at x + 2) 0) (drop (text_at x + 3) ts))) size
-      ∙ ap (λ (k : ℕ). drop n (take k (drop (text_at x + 3) ts))) was
-      ∙ drop_of_length-le t short
-
-  listed_here : listed_in ts x ≡ front (text s x)
-  unfolding listed_in
-  listed_here = ap (λ (C : List ℕ). front C ++ lost_in ts x) here ∙ ap (λ (D : List ℕ). front (text s x) ++ D) none ∙ append-nil (front (text s x))
+  none = none_lost ts x n (slot s l i x a).0 size was
 
   anew : Anew s x l ts
   anew =
@@ -82,8 +69,5 @@ module _ (s : Owned) (l i x : ℕ) (a : At s x l i) where
         owns = λ m. rw (r, k) refl;
         losts = rw (r, k) refl;
         texts = λ y. rw v (elim (cases_eq y x) [ inl q ↦ ap (clause_in ts) q ∙ here ∙ ap (text s) (sym q) | inr ne ↦ beside_clause old ts x (slot s l i x a).0 only sizes y ne ]);
-        listings = λ y. rw v (elim (cases_eq y x) [
-          | inl q ↦ ap (listed_in ts) q ∙ listed_here ∙ sym (at_here (listed s) x (front (text s x)) y q)
-          | inr ne ↦ beside_listed old ts x (slot s l i x a).0 only sizes y ne ∙ sym (at_else (listed s) x (front (text s x)) y ne)
-        ]);
+        listings = λ y. rw v (beside_listings old ts x (slot s l i x a).0 only sizes (front (text s x)) (listed_by ts x (text s x) here none) y);
       }

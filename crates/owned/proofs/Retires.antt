@@ -10,6 +10,7 @@ use Rattle.owned.specs.Effects.{Retired}
 use Rattle.owned.proofs.Leaves.{Facts, Found, left_free, left_kept, left_lost, left_owns, left_same, literal, stood}
 use Rattle.owned.proofs.Goes.{Went, shift_went}
 
+-- slot x at place i of the own list of l, lost if b and else free
 module _ (s : Owned) (l i x : ℕ) (a : At s x l i) (b : Bool) (h : ℕ) (e : h ≡ cond b 2049 2048) where
   abbrev new : List ℕ
   new = shifted s.links.now h x
@@ -23,6 +24,7 @@ module _ (s : Owned) (l i x : ℕ) (a : At s x l i) (b : Bool) (h : ℕ) (e : h 
   went : Went s.room s.links.now new l i x (drop_at i (rg s.room s.links.now l)) h
   went = shift_went s.room s.links.now l i x h (stood s l i x a) far.1 (let p = literal s l i x a in let q = far.0 in λ z. omega arith)
 
+  -- as the code writes it, where k is the place of the slot's words
   pub retired_kept : (links : List ℕ) → links ≡ new → (k : ℕ) → k ≡ text_at x → Facts s.room links (set s.texts.now k h) (s.live - 1)
   retired_kept links g k p = rw (g, p) (left_kept s l i x a h far (drop_at i) new went)
 

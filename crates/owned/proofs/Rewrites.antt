@@ -33,6 +33,7 @@ pub record Anew (s : Owned) (x l : ℕ) (ts : List ℕ) : Type 0 where
   pub end : last (clause_in ts x) ≡ l
   pub bounded : AllByRecursion (λ k. k < 2048) (lost_in ts x)
 
+-- slot x at place i of the own list of l, whose words say that
 module _ (s : Owned) (l i x : ℕ) (a : At s x l i) (ts : List ℕ) (n : Anew s x l ts) where
   abbrev Q : ℕ → List ℕ
   Q m = rg s.room s.links.now m

@@ -6,7 +6,6 @@ use Rattle.std.proofs.Math.Seq.{drop-append_seam, take-append_seam}
 use Rattle.std.proofs.lemmas.Bool.{cases_eq}
 use Rattle.std.proofs.lemmas.List.{append_assoc, drop-set-lt, drop-take, get_or-set_other, get_or-set_same, length-append, length-drop, length-take-le, places}
 use Rattle.std.proofs.lemmas.Slice.{overwrites}
-use Rattle.rings.proofs.Drops.{at_else, at_here}
 use Rattle.network.specs.Clauses.{front, has, last, well_formed, without}
 use Rattle.network.specs.Lists.{In}
 use Rattle.network.proofs.Lists.{has_in}
@@ -16,7 +15,7 @@ use Rattle.owned.specs.declared.owned.Owned.{Owned}
 use Rattle.owned.specs.Layout.{text_at, home, clause_in, lost_in, listed_in, Sized}
 use Rattle.owned.specs.Lists.{At, listed, text}
 use Rattle.owned.specs.Effects.{Shortened}
-use Rattle.owned.proofs.Besides.{Beside, beside_clause, beside_listed, beside_set}
+use Rattle.owned.proofs.Besides.{Beside, beside_listed, beside_set, beside_texts, clause_by}
 use Rattle.owned.proofs.Drops.{behind, dropped_fewer, dropped_small, dropped_words, listed_kept}
 use Rattle.owned.proofs.Leaves.{Facts, inside, slot}
 use Rattle.owned.proofs.Rewrites.{Anew, anew_kept}
@@ -24,6 +23,7 @@ use Rattle.owned.proofs.Stands.{stands}
 use Rattle.owned.proofs.Texts.{all_sized, clause_is, lost_in_is}
 use Rattle.owned.proofs.Wholes.{at_bounded, at_end, at_sizes, at_well}
 
+-- slot x at place i of the own list of l
 module _ (s : Owned) (l i x : ℕ) (a : At s x l i) where
   abbrev old : List ℕ
   old = s.texts.now
@@ -118,7 +118,7 @@ module _ (s : Owned) (l i x : ℕ) (a : At s x l i) where
         drop-set-lt (b + 3) mid (b + 1) m (omega arith) ∙ ap (λ (n : ℕ). drop n mid) (sym t) ∙ drop-append_seam (take (b + 3) old) ((W ++ (k ∷ [])) ++ R) ∙ append_assoc W (k ∷ []) R
 
     here : clause_in ts x ≡ W
-    here = clause_is ts x (slot s l i x a).0 ∙ ap (λ (n : ℕ). take n (drop (b + 3) ts)) size ∙ ap (take m) words ∙ take-append_seam W (k ∷ R)
+    here = clause_by ts x m W (slot s l i x a).0 size (ap (take m) words ∙ take-append_seam W (k ∷ R))
 
     more : w ≡ m + suc j
     more = let z = sizes in let z0 = z.0 in let n = length_is in let f = fewer in omega arith
@@ -189,10 +189,7 @@ module _ (s : Owned) (l i x : ℕ) (a : At s x l i) where
             room = c;
             owns = λ n. rw (c, d) refl;
             losts = rw (c, d) refl;
-            texts = λ y. rw q (elim (cases_eq y x) [
-              | inl o ↦ ap (clause_in ts) o ∙ here ∙ sym (at_here (text s) x W y o)
-              | inr ne ↦ beside_clause old ts x (slot s l i x a).0 only z y ne ∙ sym (at_else (text s) x W y ne)
-            ]);
+            texts = λ y. rw q (beside_texts old ts x (slot s l i x a).0 only z W here y);
             listings = λ y n. rw q (elim (cases_eq y x) [
               | inl o ↦ ap (λ (u : ℕ). has n (listed_in ts u)) o ∙ listed_now n ∙ ap (λ (u : ℕ). has n (listed s u)) (sym o)
               | inr ne ↦ ap (has n) (beside_listed old ts x (slot s l i x a).0 only z y ne)

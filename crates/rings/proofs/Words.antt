@@ -8,7 +8,7 @@ use Rattle.rings.specs.Rings.{Lacks, Differ, next, prev, Path, walk, ring, Knit,
 use Rattle.rings.proofs.Paths.{Unlinks, Links, unlink_path, link_path, path_prev, walk_path, walk_slots}
 use Rattle.rings.proofs.Holes.{before_all, few, path_differ, without_all, apart_from}
 
-walk_within : (nx : ℕ → ℕ) (heads nodes k x : ℕ) → ((n : ℕ) → n < nodes → nx n < nodes) → x < nodes → AllByRecursion (λ y. y < nodes) (walk nx heads k x)
+pub walk_within : (nx : ℕ → ℕ) (heads nodes k x : ℕ) → ((n : ℕ) → n < nodes → nx n < nodes) → x < nodes → AllByRecursion (λ y. y < nodes) (walk nx heads k x)
 unfolding walk
 walk_within nx heads nodes zero x w h = tt
 walk_within nx heads nodes (suc k) x w h =

@@ -1,3 +1,4 @@
 pub mod Rings
 pub mod Laws
 pub mod Left
+pub mod Tidy

@@ -1,174 +1,116 @@
--- What each change leaves of a store. Assumes nothing.
-use Rattle.std.proofs.Common.{◌≡◌, ℕ, ◌+◌, ◌-◌, ◌*◌, ◌<◌, ◌≤◌, true, false, ◌⊎◌, List, [], ◌∷◌, ◌++◌, length, get_or, sym, ap, ◌∙◌, subst, inl, inr, arith}
-use Rattle.std.proofs.lemmas.Bool.{and_left, and_right, cases_eq}
-use Rattle.std.proofs.lemmas.List.{get_or_append_left, length_push}
-use Rattle.network.specs.Clauses.{has, front, last, well_formed}
-use Rattle.rings.specs.Rings.{at, next, cut_out, linked, put_in, shifted, swapped, swapped_out, unlinked}
-use Rattle.rings.proofs.Drops.{at_here, at_else}
-use Rattle.rules.specs.Store.{enterable, entered, index_off, removed, retired}
-use Rattle.rules.specs.Lawful.{Lawful}
-use Rattle.rules.proofs.Formed.{formed_parts}
-use Rattle.rules.proofs.Lawful.{emptied_lawful, entered_lawful, index_off_lawful, removed_lawful, retired_lawful}
-use Rattle.scanned.specs.declared.scanned.Scanned.{Scanned}
-use Rattle.scanned.specs.Sums.{blank, total}
-use Rattle.scanned.specs.Layout.{At, Admitted, Filled, Joined, Kin, Loose, Whole, Wrote, meaning_of, node_count, own_of, rg, text_at}
-use Rattle.scanned.specs.Means.{means}
-use Rattle.scanned.specs.Facts.{lawful}
-use Rattle.scanned.proofs.Stores.{Kept, kept, stands}
-use Rattle.scanned.proofs.Asks.{at_low, at_room}
-use Rattle.scanned.proofs.Fills.{filled_blank, filled_live, filled_whole, no_room_blank}
-use Rattle.scanned.proofs.Totals.{total_none}
-use Rattle.scanned.proofs.Wholes.{own_bare}
-use Rattle.scanned.proofs.Removes.{remove_words, remove_whole, remove_length, remove_live, removed_meaning}
-use Rattle.scanned.proofs.Retires.{retire_words, retire_whole, retire_live, retired_meaning}
-use Rattle.scanned.proofs.Admits.{admit_words, admit_whole, admit_loose, admit_is, admit_live}
-use Rattle.scanned.proofs.Joins.{join_put, join_whole, join_is}
-use Rattle.scanned.proofs.Enters.{admitted_meaning, admitted_uses, enter_fits, front_one, joined_meaning, joined_total}
-use Rattle.scanned.proofs.Offs.{bare_off, lowered, off_live, off_meaning, off_owns}
+-- What joining and leaving make of the sequence. Assumes nothing.
+use Rattle.std.proofs.Common.{◌≡◌, ℕ, zero, suc, ◌+◌, ◌-◌, ◌*◌, ◌<◌, ◌≤◌, Bool, true, false, cond, not, ltb, List, [], ◌∷◌, ◌++◌, map, length, get_or, drop, filter, Some, None, Option, sym, refl, ap, ◌∙◌, subst, inl, inr, arith}
+use Rattle.std.specs.Bool.{◌==◌}
+use Rattle.std.proofs.lemmas.Bool.{cases_Bool, cases_eq, cases_lt, cond-true, cond-false, eq-eqb, ne_eqb, both_ways, lt-ltb}
+use Rattle.std.proofs.lemmas.Bool.Decides.{nat_tests}
+use Rattle.network.specs.Clauses.{has, without}
+use Rattle.rings.specs.Rings.{Lacks, cut_out, next, put_in, ring}
+use Rattle.rings.specs.Tidy.{Tidy}
+use Rattle.rings.proofs.Holes.{without_lacks}
+use Rattle.rings.proofs.Paths.{without_here, without_other}
+use Rattle.rings.proofs.Tidies.{cut_out_rings, cut_out_tidy, put_in_rings, put_in_tidy}
+use Rattle.slots.proofs.Members.{filter_push, filter_without, has_push, has_without, not_has_lacks}
+use Rattle.scanned.specs.Facts.{behind_is, joined_has}
+use Rattle.slotted.specs.Indexes.{Listing, MayJoin}
+use Rattle.scanned.specs.Sequence.{Sound, in_range, joined_in, listed_at, nodes_behind, sequence, slot_of, used_in}
 
--- a clause taken out
-module _ (s : Scanned) (l i x : ℕ) (a : At s.room s.words.now x l i) where
-  abbrev ws : List ℕ
-  ws = s.words.now
+map_without : (n : ℕ) (ns : List ℕ) → map slot_of (without n ns) ≡ without (slot_of n) (map slot_of ns)
+map_without n [] = refl
+map_without n (m ∷ ns) = elim (cases_eq m n) [
+  | inl e ↦ ap (map slot_of) (without_here n m ns e) ∙ map_without n ns ∙ sym (without_here (slot_of n) (slot_of m) (map slot_of ns) (ap slot_of e))
+  | inr ne ↦ ap (map slot_of) (without_other n m ns ne) ∙ ap (λ (ys : List ℕ). slot_of m ∷ ys) (map_without n ns) ∙ sym (without_other (slot_of n) (slot_of m) (map slot_of ns) (λ q. ne (omega arith)))
+]
 
-  pub some : 0 < s.room
-  some = at_room s.room s.indexed ws (stands s) x l i a
+map_push : (ns : List ℕ) (n : ℕ) → map slot_of (ns ++ (n ∷ [])) ≡ map slot_of ns ++ (slot_of n ∷ [])
+map_push [] n = refl
+map_push (m ∷ ns) n = ap (λ (ys : List ℕ). slot_of m ∷ ys) (map_push ns n)
 
-  pub whole : Whole s.room s.indexed ws
-  whole = stands s some
+module _ (room : ℕ) (ws : List ℕ) (s : Sound room ws) (x : ℕ) where
+  abbrev S : List ℕ
+  S = sequence room ws
 
-  pub low : x < 2051 + s.room
-  low = at_low s.room s.indexed ws (stands s) x l i a
+  -- ## Slots past the range
 
-  pub alive : 0 < s.live
-  alive = let p = remove_live s.room s.indexed ws whole some l i x a in let q = s.alive in omega arith
+  module _ (e : in_range room x ≡ false) where
+    not_joined : joined_in room ws x ≡ false
+    unfolding joined_in
+    not_joined = rw e refl
 
-  module _ (vs : List ℕ) (e : vs ≡ put_in (swapped_out (cut_out ws (x + s.room)) l x) 2048 x) where
-    words : vs ≡ linked (swapped (unlinked ws (x + s.room)) l x) 2048 x
-    words = e ∙ remove_words s.room s.indexed ws whole some l i x a
+    pub stranger_used : (L : Listing) (k : ℕ) → used_in room ws L k ≡ without x (used_in room ws L k)
+    stranger_used L k =
+        let l = not_has_lacks x S (sym (joined_has room ws s x) ∙ not_joined) in
+        ap (filter (λ y. has k (L y))) (sym (without_lacks x S l)) ∙ filter_without (λ y. has k (L y)) x S
 
-    pub taken_meaning : meaning_of s.room s.indexed vs ≡ removed l i (means s)
-    taken_meaning = ap (meaning_of s.room s.indexed) words ∙ removed_meaning s.room s.indexed ws whole some l i x a
+    pub stranger_joined : (y : ℕ) → joined_in room ws y ≡ cond (y == x) false (joined_in room ws y)
+    stranger_joined y = elim (cases_eq y x) [
+      | inl q ↦ ap (joined_in room ws) q ∙ not_joined ∙ sym (cond-true (y == x) false (joined_in room ws y) (eq-eqb y x q))
+      | inr n ↦ sym (cond-false (y == x) false (joined_in room ws y) (ne_eqb y x n))
+    ]
 
-    pub taken_kept : i < length ((means s).own l) → Kept s.room s.indexed vs (s.live - 1)
-    taken_kept h =
-        let q = s.alive in
-        let t : total 2048 (λ m. length (own_of s.room vs m)) + 1 ≡ total 2048 (λ m. length (own_of s.room ws m)) = ap (λ (us : List ℕ). total 2048 (λ m. length (own_of s.room us m)) + 1) words ∙ remove_live s.room s.indexed ws whole some l i x a in
-        kept s.room s.indexed vs (s.live - 1) s.small (omega arith) (λ r. rw words (remove_whole s.room s.indexed ws whole some l i x a (remove_length s.room s.indexed ws whole some l i x a)))
-        (subst Lawful (sym taken_meaning) (removed_lawful l i (means s) (lawful s) h))
+  -- ## Slots in it
 
-  -- order kept
-  module _ (h : ℕ) (to : ((h ≡ 2048) × (next ws (x + s.room) ≡ x + s.room)) ⊎ ((h ≡ 2049) × (next ws (x + s.room) ≡ x + s.room → ⊥))) (vs : List ℕ) (e : vs ≡ shifted ws h x) where
-    moved : vs ≡ linked (unlinked ws x) h x
-    moved = e ∙ retire_words s.room s.indexed ws whole some l i x a h to
+  module _ (e : in_range room x ≡ true) where
+    abbrev n : ℕ
+    n = x - 2049
 
-    pub put_meaning : meaning_of s.room s.indexed vs ≡ retired l i (means s)
-    put_meaning = ap (meaning_of s.room s.indexed) moved ∙ retired_meaning s.room s.indexed ws whole some l i x a h to
+    some : 0 < room
+    some = let a : 2050 ≤ x = grind (arith, nat_tests) in let b : x < 2050 + room = grind (arith, nat_tests) in omega arith
 
-    pub put_kept : i < length ((means s).own l) → Kept s.room s.indexed vs (s.live - 1)
-    put_kept h' =
-        let q = s.alive in
-        let t : total 2048 (λ m. length (own_of s.room vs m)) + 1 ≡ total 2048 (λ m. length (own_of s.room ws m)) = ap (λ (us : List ℕ). total 2048 (λ m. length (own_of s.room us m)) + 1) moved ∙ retire_live s.room s.indexed ws whole some l i x a h to in
-        kept s.room s.indexed vs (s.live - 1) s.small (omega arith) (λ r. rw moved (retire_whole s.room s.indexed ws whole some l i x a h to))
-        (subst Lawful (sym put_meaning) (retired_lawful l i (means s) (lawful s) h'))
+    here : (1 ≤ n) × (n < room + 1)
+    here = let a : 2050 ≤ x = grind (arith, nat_tests) in let b : x < 2050 + room = grind (arith, nat_tests) in (omega arith, omega arith)
 
--- words made anew
-pub fresh_kept : (room : ℕ) (vs : List ℕ) → room < 4097 → Filled room vs room → 2 * node_count room + 34 * room ≤ length vs → Kept room false vs 0
-fresh_kept room vs small f long = kept room false vs 0 small (filled_live room vs f) (λ _. filled_whole room vs f long) (subst Lawful (sym (filled_blank room vs f)) (emptied_lawful (blank room)))
+    back : slot_of n ≡ x
+    back = let a = here.0 in omega arith
 
-pub none_kept : (room : ℕ) (vs : List ℕ) → room ≡ 0 → Kept room false vs 0
-none_kept room vs z =
-    kept room false vs 0 (omega arith) (sym (total_none 2048 (λ l. length (own_of room vs l)) (λ l h. ap length (own_bare room vs l (omega arith))))) (λ r. absurd (omega arith))
-    (subst Lawful (sym (no_room_blank room vs z)) (emptied_lawful (blank room)))
+    R : List ℕ
+    R = ring 1 (room + 1) ws 0
 
--- the index dropped
-module _ (s : Scanned) (some : 0 < s.room) (vs : List ℕ) (w : Whole s.room true vs) (k : Kin s.room s.words.now vs) (none : rg s.room vs 2050 ≡ []) (gone : rg s.room vs 2049 ≡ []) where
-  pub dropped_meaning : meaning_of s.room false vs ≡ index_off (means s)
-  dropped_meaning = off_meaning s.room s.indexed s.words.now vs some k none gone
+    -- x leaves
+    module _ (vs : List ℕ) (q : vs ≡ cut_out ws n) where
+      pub left_sound : Sound room vs
+      left_sound r = subst (Tidy 1 (room + 1)) (sym q) (cut_out_tidy 1 (room + 1) ws (s r) n here.0 here.1)
 
-  pub dropped_kept : Kept s.room false vs s.live
-  dropped_kept =
-      kept s.room false vs s.live s.small (s.alive ∙ sym (off_live s.room s.indexed s.words.now vs some k none gone)) (λ _. lowered s.room vs w gone none)
-      (subst Lawful (sym dropped_meaning) (index_off_lawful (means s) (lawful s)))
+      left_is : sequence room vs ≡ without x S
+      left_is =
+          ap (map slot_of) (behind_is room vs 0 some ∙ ap (λ (us : List ℕ). ring 1 (room + 1) us 0) q ∙ cut_out_rings 1 (room + 1) ws (s some) n here.0 here.1 0 (omega arith) ∙ ap (without n) (sym (behind_is room ws 0 some)))
+          ∙ map_without n (nodes_behind room ws 0)
+          ∙ ap (λ (y : ℕ). without y S) back
 
-  pub dropped_keeps : (h l i : ℕ) → At s.room s.words.now h l i → At s.room vs h l i
-  dropped_keeps h l i a = let e = off_owns s.room s.indexed s.words.now vs some k none gone l in rw e a
+      pub left_used : (L : Listing) (k : ℕ) → used_in room vs L k ≡ without x (used_in room ws L k)
+      left_used L k = ap (filter (λ y. has k (L y))) left_is ∙ filter_without (λ y. has k (L y)) x S
 
--- with no room
-module _ (s : Scanned) (z : s.room ≤ 0) where
-  pub bare_meaning : meaning_of s.room false s.words.now ≡ index_off (means s)
-  bare_meaning = bare_off s.room s.indexed s.words.now (omega arith)
+      pub left_joined : (y : ℕ) → joined_in room vs y ≡ cond (y == x) false (joined_in room ws y)
+      left_joined y = joined_has room vs left_sound y ∙ ap (has y) left_is ∙ has_without y x S ∙ ap (cond (y == x) false) (sym (joined_has room ws s y))
 
-  pub bare_kept : Kept s.room false s.words.now s.live
-  bare_kept = kept s.room false s.words.now s.live s.small s.alive (λ r. absurd (omega arith)) (subst Lawful (sym bare_meaning) (index_off_lawful (means s) (lawful s)))
+    -- x comes last
+    module _ (vs : List ℕ) (alone : next ws n ≡ n) (q : vs ≡ put_in ws 0 n) where
+      pub come_sound : Sound room vs
+      come_sound r = subst (Tidy 1 (room + 1)) (sym q) (put_in_tidy 1 (room + 1) ws (s r) 0 n (omega arith) here.0 here.1 alone)
 
--- a clause entered, its slot at the end of its own list
-pub record Entered (s : Scanned) (x : ℕ) (c zs : List ℕ) : Type 0 where
-  pub whole : Whole s.room s.indexed zs
-  pub count : total 2048 (λ l. length (own_of s.room zs l)) ≡ total 2048 (λ l. length (own_of s.room s.words.now l)) + 1
-  pub meaning : meaning_of s.room s.indexed zs ≡ entered c (means s)
-  pub owns : (l : ℕ) → own_of s.room zs l ≡ at (own_of s.room s.words.now) (last c) (own_of s.room s.words.now (last c) ++ (x ∷ [])) l
+      come_is : sequence room vs ≡ S ++ (x ∷ [])
+      come_is =
+          ap (map slot_of) (behind_is room vs 0 some ∙ ap (λ (us : List ℕ). ring 1 (room + 1) us 0) q ∙ put_in_rings 1 (room + 1) ws (s some) 0 n (omega arith) here.0 here.1 alone 0 (omega arith) ∙ ap (λ (ys : List ℕ). ys ++ (n ∷ [])) (sym (behind_is room ws 0 some)))
+          ∙ map_push (nodes_behind room ws 0) n
+          ∙ ap (λ (y : ℕ). S ++ (y ∷ [])) back
 
-module _ (s : Scanned) (some : 0 < s.room) (x : ℕ) (c : List ℕ) (place : (0 < length (rg s.room s.words.now 2048)) × (get_or (rg s.room s.words.now 2048) 0 0 ≡ x)) (good : well_formed c ≡ true) where
-  abbrev old : List ℕ
-  old = s.words.now
+      pub come_used : (literals : List ℕ) (L : Listing) → L x ≡ literals → (k : ℕ) → used_in room vs L k ≡ cond (has k literals) (used_in room ws L k ++ (x ∷ [])) (used_in room ws L k)
+      come_used literals L e k = ap (filter (λ y. has k (L y))) come_is ∙ filter_push (λ y. has k (L y)) S x ∙ ap (λ (ys : List ℕ). cond (has k ys) (used_in room ws L k ++ (x ∷ [])) (used_in room ws L k)) e
 
-  pub fits : enterable (means s) c ≡ true
-  fits = enter_fits s.room s.indexed old c some (stands s some) place.0 good
+      pub come_joined : (literals : List ℕ) → 0 < length literals → (y : ℕ) → joined_in room vs y ≡ cond (y == x) (ltb 0 (length literals)) (joined_in room ws y)
+      come_joined literals h y = joined_has room vs come_sound y ∙ ap (has y) come_is ∙ has_push y x S ∙ ap (λ (b : Bool). cond (y == x) b (has y S)) (sym (lt-ltb 0 (length literals) h)) ∙ ap (cond (y == x) (ltb 0 (length literals))) (sym (joined_has room ws s y))
 
-  module _ (us : List ℕ) (wr : Wrote old us (text_at s.room x) c) (h : ℕ) (ends : h ≡ last c) (vs : List ℕ) (e : vs ≡ shifted us h x) where
-    is : vs ≡ linked (unlinked us x) (last c) x
-    is = e ∙ admit_words s.room s.indexed old us (stands s some) some x c place good (formed_parts c good) wr h ends
+    -- a slot that has joined does not stand alone
+    pub apart_joined : (next ws n ≡ n → ⊥) → joined_in room ws x ≡ true
+    unfolding joined_in
+    apart_joined a = rw e (ap not (ne_eqb (next ws n) n a))
 
-    admitted : Admitted s.room old vs x c
-    admitted = rw is (admit_is s.room s.indexed old us (stands s some) some x c place good (formed_parts c good) wr)
+  -- no literals
+  module _ (literals : List ℕ) (none : literals ≡ []) where
+    pub none_used : (L : Listing) (k : ℕ) → used_in room ws L k ≡ cond (has k literals) (used_in room ws L k ++ (x ∷ [])) (used_in room ws L k)
+    none_used L k = rw none refl
 
-    held : Whole s.room s.indexed vs
-    held = rw is (admit_whole s.room s.indexed old us (stands s some) some x c place good (formed_parts c good) wr)
-
-    more : total 2048 (λ l. length (own_of s.room vs l)) ≡ total 2048 (λ l. length (own_of s.room old l)) + 1
-    more = ap (λ (v : List ℕ). total 2048 (λ l. length (own_of s.room v l))) is ∙ admit_live s.room s.indexed old us (stands s some) some x c place good (formed_parts c good) wr
-
-    entered_alone : (s.indexed ≡ false) ⊎ (length c ≤ 1) → Entered s x c vs
-    entered_alone q =
-        let f = (formed_parts c good).some in
-        record {
-          whole = held;
-          count = more;
-          meaning = admitted_meaning s.room s.indexed old vs x c admitted (λ k. elim q [ inl off ↦ and_left s.indexed (has k (front c)) off | inr one ↦ and_right s.indexed (has k (front c)) (front_one k c (omega arith)) ]);
-          owns = admitted.owns;
-        }
-
-    entered_both : (zs : List ℕ) → zs ≡ put_in vs 2050 (x + s.room) → s.indexed ≡ true → 1 < length c → Entered s x c zs
-    entered_both zs g on two =
-        let lo : Loose s.room vs x = rw is (admit_loose s.room s.indexed old us (stands s some) some x c place good (formed_parts c good) wr) in
-        let u = admitted_uses s.room old vs x c admitted good (omega arith) (formed_parts c good).some in
-        let p = g ∙ join_put s.room s.indexed vs held some x lo on u in
-        let j : Joined s.room vs zs x = rw p (join_is s.room s.indexed vs held some x lo on u) in
-        record {
-          whole = rw p (join_whole s.room s.indexed vs held some x lo on u);
-          count = joined_total s.room vs zs x j ∙ more;
-          meaning = joined_meaning s.room s.indexed old vs x c admitted zs j on (formed_parts c good).order;
-          owns = λ l. j.owns l ∙ admitted.owns l;
-        }
-
-    -- with no index or one literal, and else at the end of the sequence too
-    pub entered_as : (zs : List ℕ) → ((zs ≡ vs) × ((s.indexed ≡ false) ⊎ (length c ≤ 1))) ⊎ ((zs ≡ put_in vs 2050 (x + s.room)) × ((s.indexed ≡ true) × (1 < length c))) → Entered s x c zs
-    entered_as zs q = elim q [ inl p ↦ rw p.0 (entered_alone p.1) | inr p ↦ entered_both zs p.0 p.1.0 p.1.1 ]
-
-  module _ (zs : List ℕ) (n : Entered s x c zs) where
-    pub entered_kept : Kept s.room s.indexed zs (s.live + 1)
-    entered_kept = let a = s.alive in let b = n.count in kept s.room s.indexed zs (s.live + 1) s.small (omega arith) (λ _. n.whole) (subst Lawful (sym n.meaning) (entered_lawful c (means s) (lawful s) fits))
-
-    pub entered_keeps : (h l i : ℕ) → At s.room old h l i → At s.room zs h l i
-    entered_keeps h l i a =
-        let own = own_of s.room old in
-        let long = own (last c) ++ (x ∷ []) in
-        rw (n.owns l) (elim (cases_eq l (last c)) [
-          | inl q ↦
-              let p : i < length (own (last c)) = subst (λ (m : ℕ). i < length (own m)) q a.0 in
-              let g : get_or (own (last c)) i 0 ≡ h = ap (λ (m : ℕ). get_or (own m) i 0) (sym q) ∙ a.1 in
-              let k = length_push (own (last c)) x in
-              rw (at_here own (last c) long l q) (omega arith, get_or_append_left (own (last c)) (x ∷ []) 0 i p ∙ g)
-          | inr ne ↦ rw (at_else own (last c) long l ne) a
-        ])
+    pub none_joined : joined_in room ws x ≡ false → (y : ℕ) → joined_in room ws y ≡ cond (y == x) (ltb 0 (length literals)) (joined_in room ws y)
+    none_joined f y = elim (cases_eq y x) [
+      | inl q ↦ ap (joined_in room ws) q ∙ f ∙ ap (λ (ys : List ℕ). ltb 0 (length ys)) (sym none) ∙ sym (cond-true (y == x) (ltb 0 (length literals)) (joined_in room ws y) (eq-eqb y x q))
+      | inr n ↦ sym (cond-false (y == x) (ltb 0 (length literals)) (joined_in room ws y) (ne_eqb y x n))
+    ]

@@ -1,14 +1,2 @@
-pub mod Wholes
-pub mod Totals
-pub mod Fills
-pub mod Asks
-pub mod Frames
-pub mod Admits
-pub mod Joins
-pub mod Enters
-pub mod Removes
-pub mod Retires
-pub mod Offs
-pub mod Places
-pub mod Stores
+pub mod Sequences
 pub mod Changes

@@ -1,4 +1,4 @@
-pub mod Sums
-pub mod Layout
-pub mod Means
+pub mod Firsts
+pub mod Sequence
 pub mod Facts
+pub mod Whole

@@ -1,4 +1,4 @@
-use Rattle.std.proofs.Common.{◌≡◌, ℕ, ◌+◌, ◌-◌, List, length, take, drop, sym, ap, refl, ◌∙◌, arith}
+use Rattle.std.proofs.Common.{◌≡◌, ℕ, ◌+◌, ◌-◌, true, length, take, drop, sym, ap, refl, ◌∙◌, arith}
 use Rattle.clause.specs.Written.{Front}
 use Rattle.network.specs.Clauses.{front, has, without}
 use Rattle.owned.specs.Lists.{At, text}
@@ -6,14 +6,14 @@ use Rattle.owned.proofs.Drops.{any_front}
 use Rattle.owned.proofs.Rewrites.{home_found}
 use Rattle.owned.proofs.Shortens.{dropped_in, formed, shortened, shortened_kept, words_in}
 use Rattle.owned.proofs.owned.Owned.shorten.Goals as goal
-use Rattle.owned.proofs.owned.Owned.shorten.Goals.{After-text-clause, After-contains, After-drop_literal-m}
+use Rattle.owned.proofs.owned.Owned.shorten.Goals.{After-text-clause, After-drop_literal-m}
 
 found : (c : After-text-clause) → (l : ℕ) × ((i : ℕ) × At c.args.self.now c.args.x l i)
 found c = home_found c.args.self.now c.args.x c.home.result c.if-is_none.ensures c.home.ensures
 
--- whether the literal stands before the last
-tells : (c : After-contains) → c.contains.result ≡ has c.args.k (front (text c.args.self.now c.args.x))
-tells c = c.contains.ensures.value ∙ any_front c.args.k c.text-clause.result.now ∙ ap (λ (C : List ℕ). has c.args.k (front C)) c.text-clause.ensures
+-- the literal stands before the last
+stands : (c : After-drop_literal-m) → has c.args.k (front (text c.args.self.now c.args.x)) ≡ true
+stands c = sym (any_front c.args.k c.text-clause.result.now (text c.args.self.now c.args.x) c.text-clause.ensures) ∙ sym c.contains.ensures.value ∙ c.if-not-contains.false
 
 -- the part of the words that the clause has
 part : (c : After-drop_literal-m) → c.text_at-b.result + 3 + length c.text-clause.result.now - (c.text_at-b.result + 3) ≡ length (text c.args.self.now c.args.x)
@@ -31,7 +31,7 @@ slice_bounds-contains-count c =
     omega arith
 
 pub returns-then-not-contains-clause-when : goal.returns-then-not-contains-clause-when
-returns-then-not-contains-clause-when c l i a = sym c.if-not-contains.true ∙ tells (goal.at.returns-then-not-contains-clause-when c).After-contains
+returns-then-not-contains-clause-when c l i a = sym c.if-not-contains.true ∙ c.contains.ensures.value ∙ any_front c.args.k c.text-clause.result.now (text c.args.self.now c.args.x) c.text-clause.ensures
 
 pub slice_bounds-literals-end : goal.slice_bounds-literals-end
 slice_bounds-literals-end c =
@@ -45,21 +45,19 @@ pub bounds-literals-m : goal.bounds-literals-m
 bounds-literals-m c =
     let f = found (goal.at.bounds-literals-m c).After-text-clause in
     let d = (goal.at.bounds-literals-m c).After-drop_literal-m in
-    dropped_in c.args.self.now f.0 f.1.0 c.args.x f.1.1 c.args.k (sym (tells (goal.at.bounds-literals-m c).After-contains) ∙ c.if-not-contains.false) c.text_at-b.result _ c.drop_literal-m.result c.drop_literal-m.new.clause c.text_at-b.ensures (part d) (left d _ refl)
+    dropped_in c.args.self.now f.0 f.1.0 c.args.x f.1.1 c.args.k (stands d) c.text_at-b.result _ c.drop_literal-m.result c.drop_literal-m.new.clause c.text_at-b.ensures (part d) (left d _ refl)
 
 pub returns-clause-when : goal.returns-clause-when
-returns-clause-when c l i a = sym c.if-not-contains.false ∙ tells (goal.at.returns-clause-when c).After-contains
+returns-clause-when c l i a = sym (stands (goal.at.returns-clause-when c).After-drop_literal-m)
 
 pub invariant_of-self : goal.invariant_of-self
 invariant_of-self c =
     let f = found (goal.at.invariant_of-self c).After-text-clause in
     let d = (goal.at.invariant_of-self c).After-drop_literal-m in
-    let h = sym (tells (goal.at.invariant_of-self c).After-contains) ∙ c.if-not-contains.false in
-    shortened_kept c.args.self.now f.0 f.1.0 c.args.x f.1.1 c.args.k h c.text_at-b.result _ c.drop_literal-m.result c.drop_literal-m.new.clause c.text_at-b.ensures (part d) (left d _ refl)
+    shortened_kept c.args.self.now f.0 f.1.0 c.args.x f.1.1 c.args.k (stands d) c.text_at-b.result _ c.drop_literal-m.result c.drop_literal-m.new.clause c.text_at-b.ensures (part d) (left d _ refl)
 
 pub returns-clause-makes : goal.returns-clause-makes
 returns-clause-makes c e =
     let f = found (goal.at.returns-clause-makes c).After-text-clause in
     let d = (goal.at.returns-clause-makes c).After-drop_literal-m in
-    let h = sym (tells (goal.at.returns-clause-makes c).After-contains) ∙ c.if-not-contains.false in
-    shortened c.args.self.now f.0 f.1.0 c.args.x f.1.1 c.args.k h c.text_at-b.result _ c.drop_literal-m.result c.drop_literal-m.new.clause c.text_at-b.ensures (part d) (left d _ refl) _ refl refl refl
+    shortened c.args.self.now f.0 f.1.0 c.args.x f.1.1 c.args.k (stands d) c.text_at-b.result _ c.drop_literal-m.result c.drop_literal-m.new.clause c.text_at-b.ensures (part d) (left d _ refl) _ refl refl refl

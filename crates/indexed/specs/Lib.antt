@@ -1,0 +1,4 @@
+pub mod Links
+pub mod Facts
+pub mod Turns
+pub mod Laws
