@@ -13,7 +13,7 @@ use Rattle.rings.proofs.Shifts.{lone_ring}
 use Rattle.rings.proofs.Tidies.{scattered_tidy}
 use Rattle.rings.proofs.Words.{ring_differ, ring_slots}
 use Rattle.slots.proofs.Members.{not_has_lacks}
-use Rattle.indexed.specs.Facts.{all_alone, lacks_by_nodes, node_in, node_slot, nodes_by, nodes_high, nodes_is, nodes_none, slot_node}
+use Rattle.indexed.specs.Facts.{all_alone, lacks_by_nodes, map_length, node_in, node_slot, nodes_by, nodes_high, nodes_is, nodes_none, slot_node}
 use Rattle.indexed.specs.Links.{Bare, Sound, Stands, Whole, first_node, in_range, joined_in, node_count, nodes_of, slot_of, used_in}
 use Rattle.indexed.specs.Turns.{AloneAlike, Joining, Leaving}
 use Rattle.indexed.proofs.Turns.{joined_uses, joined_whole, left_uses, left_whole, range_is, take_whole}
@@ -186,10 +186,6 @@ bare_joined room ws b y = elim (cases_Bool (in_range room y)) [
 
 pub used_few : (room : ℕ) (ws : List ℕ) → Sound room ws → (k : ℕ) → length (nodes_of room ws k) ≤ node_count room
 used_few room ws s k = nodes_by (λ ns. length ns ≤ node_count room) room ws k (omega arith) (λ r h. few (node_count room) (ring 2048 (node_count room) ws k) (ring_differ 2048 (node_count room) ws (s r).tidy.held k h) (ring_slots 2048 (node_count room) ws (s r).tidy.held k h).1)
-
-pub map_length : (ns : List ℕ) → length (map slot_of ns) ≡ length ns
-map_length [] = refl
-map_length (n ∷ ns) = ap suc (map_length ns)
 
 module _ (room : ℕ) (ws : List ℕ) (s : Sound room ws) (n k j : ℕ) (st : Stands room ws n k j) where
   there : (0 < room) × (k < 2048)

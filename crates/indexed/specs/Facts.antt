@@ -16,7 +16,7 @@ use Rattle.rings.proofs.Tidies.{tidy_prop}
 use Rattle.rings.proofs.Words.{alone_lacks, ring_slots}
 use Rattle.slots.proofs.Members.{all_has, all_map, has_else, has_here, has_not_lacks, lacks_has, not_has_lacks}
 use Rattle.slotted.specs.Indexes.{Listing, Sensible}
-use Rattle.indexed.specs.Links.{Sound, Whole, first_node, in_range, joined_in, node_count, nodes_of, slot_of, used_in}
+use Rattle.indexed.specs.Links.{Sound, Stands, Whole, first_node, in_range, joined_in, node_count, nodes_of, slot_of, used_in}
 
 lacks_prop : (y : ℕ) (ys : List ℕ) → IsProp (Lacks y ys)
 lacks_prop y [] p q = refl
@@ -156,3 +156,11 @@ module _ (room : ℕ) (ws : List ℕ) (s : Sound room ws) where
     depends = λ L M alike k. refl;
     low = λ L low k high. ap (map slot_of) (nodes_high room ws k high);
   }
+
+-- as many uses as nodes
+pub map_length : (ns : List ℕ) → length (map slot_of ns) ≡ length ns
+map_length [] = refl
+map_length (n ∷ ns) = ap suc (map_length ns)
+
+pub within_is : (room : ℕ) (ws : List ℕ) (n k j : ℕ) → Stands room ws n k j → j < length (used_in room ws k)
+within_is room ws n k j st = let a = st.0 in let b = map_length (nodes_of room ws k) in omega arith

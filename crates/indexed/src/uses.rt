@@ -33,7 +33,7 @@ fn empty_rings(ws: &mut [u32], room: u32)
 }
 
 impl Index for Linked<'_> {
-    ghost use Rattle.indexed.specs.Laws.{sensible, stays};
+    ghost use Rattle.indexed.specs.Laws.{sensible, stays, within};
     ghost use Rattle.indexed.specs.Links.{Stands, joined_in, used_in};
 
     type Handle = IndexedHandle;
@@ -53,6 +53,10 @@ impl Index for Linked<'_> {
     ghost used = { λ s L. used_in s.room s.words.now };
 
     ghost usage = { λ s L u k j. Stands s.room s.words.now u.node k j };
+
+    fn room(&self) -> u32 {
+        self.room
+    }
 
     fn handle(x: u32) -> IndexedHandle
         ensures { result.slot ≡ x }
@@ -109,6 +113,8 @@ impl Index for Linked<'_> {
     }
 
     ghost sensible = { sensible };
+
+    ghost within = { within };
 
     ghost stays = { stays };
 }

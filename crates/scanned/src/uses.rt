@@ -35,7 +35,7 @@ fn cut_all(ws: &mut [u32], room: u32)
 
 impl Index for Searched<'_> {
     ghost use Rattle.scanned.specs.Sequence.{Stands, joined_in, used_in};
-    ghost use Rattle.scanned.specs.Whole.{sensible, stays};
+    ghost use Rattle.scanned.specs.Whole.{sensible, stays, within};
 
     type Handle = ScannedHandle;
 
@@ -54,6 +54,10 @@ impl Index for Searched<'_> {
     ghost used = { λ s. used_in s.room s.words.now };
 
     ghost usage = { λ s L u k j. Stands s.room s.words.now L u.slot k j };
+
+    fn room(&self) -> u32 {
+        self.room
+    }
 
     fn handle(x: u32) -> ScannedHandle
         ensures { result.slot ≡ x }
@@ -119,6 +123,8 @@ impl Index for Searched<'_> {
     }
 
     ghost sensible = { sensible };
+
+    ghost within = { within };
 
     ghost stays = { stays };
 }

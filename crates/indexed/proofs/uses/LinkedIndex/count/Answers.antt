@@ -1,9 +1,9 @@
 use Rattle.std.proofs.Common.{length, sym, ap, ◌∙◌, inl, arith}
 use Rattle.std.proofs.lemmas.Iterator.Consumers.{count_from_yields_List}
 use Rattle.rings.proofs.Gives.{gives}
-use Rattle.indexed.specs.Facts.{sound}
+use Rattle.indexed.specs.Facts.{map_length, sound}
 use Rattle.indexed.specs.Links.{nodes_of}
-use Rattle.indexed.proofs.Asks.{map_length, used_few}
+use Rattle.indexed.proofs.Asks.{used_few}
 use Rattle.indexed.proofs.uses.LinkedIndex.count.Goals as goal
 
 pub count-requires-clause-fits : goal.count-requires-clause-fits
