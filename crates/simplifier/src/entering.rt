@@ -6,10 +6,9 @@ ghost use Rattle.rules.specs.Store.{enterable};
 ghost use Rattle.rules.specs.Work.{add, add_simplified};
 ghost use Rattle.simplifier.specs.Shown.{work_of};
 
+use crate::state::Simplifier;
 use clause::{Lbool, Lit, ordered_simp};
 use store::lists::Lists;
-
-use crate::state::Simplifier;
 
 impl<S: Lists> Simplifier<S> {
     // What the known values leave of a clause, written to the front of `out`; None where a literal is true, or the clause is too long.

@@ -5,5 +5,6 @@
 // and `rules` (the work).
 #![tactic(auto)]
 
+pub mod clearing;
 pub mod entering;
 pub mod state;

@@ -1,5 +1,4 @@
-use Rattle.std.proofs.Common.{Some, None, length, ap, sym, ◌∙◌, arith, take}
-use Rattle.clause.specs.Types.{values_of}
+use Rattle.std.proofs.Common.{length, ap, sym, ◌∙◌}
 use Rattle.network.specs.Values.{simplified}
 use Rattle.rules.specs.Work.{add, add_simplified}
 use Rattle.simplifier.specs.Shown.{work_of}

@@ -19,8 +19,8 @@ returns-then-clause-eq1-clause-makes g c out =
     let b : c.polarity.result ≡ sign (get_or C 0 0) = cc in
     let lt : c.var.result.number < length c.args.self.now.values = search rules in
     let V : values_of (slice_set c.args.self.now.values c.var.result.number c.from.result) ≡ known_by C W.values =
-        value_set c.args.self.now.values c.var.result.number c.from.result c.polarity.result lt c.from.ensures
-        ∙ ap (λ k. with_value W.values k c.polarity.result) n ∙ ap (with_value W.values (node (get_or C 0 0))) b ∙ sym (single_tells C W.values c.if-clause-eq1.true) in
+    value_set c.args.self.now.values c.var.result.number c.from.result c.polarity.result lt c.from.ensures
+    ∙ ap (λ k. with_value W.values k c.polarity.result) n ∙ ap (with_value W.values (node (get_or C 0 0))) b ∙ sym (single_tells C W.values c.if-clause-eq1.true) in
     ap (valuing (storing W (g.S.Lists.meaning c.enter.new.self))) V
     ∙ taken C W (g.S.Lists.meaning c.enter.new.self) c.enter.result c.enter.ensures.when c.enter.ensures.makes c.if-not-enter.false
 
