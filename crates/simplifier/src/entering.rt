@@ -18,11 +18,13 @@ impl<S: Lists> Simplifier<S> {
         ordered_simp(clause, &self.values, out)
     }
 
-    // Enters a clause as it stands; a single literal, once entered, tells its node's value. The answer is the store's.
+    // Enters a clause as it stands; a single literal, once entered, tells its node's value. The answer is the store's. Handles keep their
+    // places.
     pub fn enter_left(&mut self, clause: &[u32]) -> bool
         ensures when { result ≡ enterable (S.meaning self.old.store) clause.now }
         ensures makes { (out : List ℕ) → work_of S.meaning self.new out ≡ add_simplified (Some clause.now) (work_of S.meaning self.old out) }
         ensures kept { self.new.taken_out ≡ self.old.taken_out }
+        ensures stand { (h : S.Handle) (l i : ℕ) → S.at self.old.store h l i → S.at self.new.store h l i }
     {
         if !self.store.enter(clause) {
             return false;
@@ -34,11 +36,13 @@ impl<S: Lists> Simplifier<S> {
         true
     }
 
-    // Enters a clause as it is under the known values, if it has at most 32 literals and none of them is true.
+    // Enters a clause as it is under the known values, if it has at most 32 literals and none of them is true. Handles keep
+    // their places.
     pub fn add(&mut self, clause: &[u32])
         ensures makes { length clause.now ≤ 32 → (out : List ℕ) → work_of S.meaning self.new out ≡ add clause.now (work_of S.meaning self.old out) }
         ensures long { 32 < length clause.now → self.new ≡ self.old }
         ensures kept { self.new.taken_out ≡ self.old.taken_out }
+        ensures stand { (h : S.Handle) (l i : ℕ) → S.at self.old.store h l i → S.at self.new.store h l i }
     {
         let mut left = [0; 32];
         if let Some(n) = self.left_of(clause, &mut left) {
