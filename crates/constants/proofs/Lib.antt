@@ -1,0 +1,3 @@
+pub mod Judges
+pub mod Lasts
+pub mod Nodes
