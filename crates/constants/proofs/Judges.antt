@@ -79,8 +79,8 @@ clause_stays M N g l i n li le = let (ys, e) = g l in ap (λ xs. get_or xs i [])
 pub list_grows : (M N : Meaning) → Grows M N → (l : ℕ) → length (M.own l) ≤ length (N.own l)
 list_grows M N g l = let (ys, e) = g l in omega (arith, ap length e, length-append (M.own l) ys)
 
-pub judged_one_grows : (C : List ℕ) (W V : Work) (b : Bool) → judged (C ∷ []) W ≡ (b ∷ [], V) → Grows W.store V.store
-judged_one_grows C W V b e = subst (λ (r : List Bool × Work). Grows W.store r.1.store) e (judged_grows (C ∷ []) W)
+pub judging_grows : (Cs : List (List ℕ)) (W V : Work) (bs : List Bool) → judged Cs W ≡ (bs, V) → Grows W.store V.store
+judging_grows Cs W V bs e = subst (λ (r : List Bool × Work). Grows W.store r.1.store) e (judged_grows Cs W)
 
 -- ## Clauses in turn
 

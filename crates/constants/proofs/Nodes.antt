@@ -1,5 +1,5 @@
 -- The turns of nodes one after another. Assumes nothing.
-use Rattle.std.proofs.Common.{◌≡◌, ℕ, suc, ◌+◌, ◌*◌, ◌-◌, Bool, true, false, not, is_some, List, [], ◌∷◌, map, length, take, Some, None, Option, refl, sym, ap, ◌∙◌, arith}
+use Rattle.std.proofs.Common.{◌≡◌, ℕ, suc, ◌+◌, ◌*◌, ◌-◌, ◌<◌, ◌≤◌, Bool, true, false, not, is_some, List, [], ◌∷◌, map, length, take, Some, None, Option, refl, sym, ap, ◌∙◌, arith}
 use Rattle.std.proofs.Math.Seq.{take-append_seam, take-length}
 use Rattle.std.proofs.lemmas.Bool.{both_ways}
 use Rattle.rules.specs.Store.{Meaning, from, up_to}
@@ -12,10 +12,10 @@ pub list_was : (M N : Meaning) → Grows M N → (l n : ℕ) → n ≡ length (M
 list_was M N g l n e = let (ys, q) = g l in ap (λ k. take k (N.own l)) e ∙ ap (take (length (M.own l))) q ∙ take-append_seam (M.own l) ys
 
 -- a node's turn, where so many clauses of each literal were judged
-pub node_turn : (n : ℕ) (W V U : Work) (as bs : List Bool) → judged (own_of W (2 * n)) W ≡ (as, V) → judged (own_of W (2 * n + 1)) V ≡ (bs, U)
-    → const_node n W ≡ storing U (clear (2 * n + 1) bs (clear (2 * n) as U.store))
+pub node_turn : (n : ℕ) (W V U : Work) (ms ns : List Bool) → judged (own_of W (2 * n)) W ≡ (ms, V) → judged (own_of W (2 * n + 1)) V ≡ (ns, U)
+    → const_node n W ≡ storing U (clear (2 * n + 1) ns (clear (2 * n) ms U.store))
 unfolding const_node
-node_turn n W V U as bs p q = ap (then_negative n (own_of W (2 * n + 1))) p ∙ ap (both_cleared n as) q
+node_turn n W V U ms ns p q = ap (then_negative n (own_of W (2 * n + 1))) p ∙ ap (both_cleared n ms) q
 
 -- the nodes from n on, up to the highest
 abbrev pub nodes_from : ℕ → ℕ → List ℕ
@@ -43,7 +43,7 @@ unfolding const_drop
 drops n W = go (W.values n)
   where
     go : (o : Option Bool) → not (is_some o) ≡ false → if_known o (storing W (clear_all (2 * n + 1) (clear_all (2 * n) W.store))) W ≡ storing W (clear_all (2 * n + 1) (clear_all (2 * n) W.store))
-    go None e = absurd (both_ways true refl e)
+    go None e = absurd (both_ways true e refl)
     go (Some b) e = refl
 
 pub keeps : (n : ℕ) (W : Work) → not (is_some (W.values n)) ≡ true → const_drop n W ≡ W
@@ -52,4 +52,4 @@ keeps n W = go (W.values n)
   where
     go : (o : Option Bool) → not (is_some o) ≡ true → if_known o (storing W (clear_all (2 * n + 1) (clear_all (2 * n) W.store))) W ≡ W
     go None e = refl
-    go (Some b) e = absurd (both_ways false e refl)
+    go (Some b) e = absurd (both_ways false refl e)

@@ -40,3 +40,39 @@ fn drop_valued<S: Store>(s: &mut Simplifier<S>, n: u32)
         s.clear_all(2 * n + 1);
     }
 }
+
+// The turns of the nodes from 1 on.
+fn take_turns<S: Store>(s: &mut Simplifier<S>, words: &mut [u32])
+    requires { 2 * (S.meaning s.now.store).room ≤ length words.now }
+    ensures makes { (out : List ℕ) → work_of S.meaning s.new out ≡ each const_node (nodes_of (work_of S.meaning s.old out)) (work_of S.meaning s.old out) }
+    ensures kept { s.new.taken_out ≡ s.old.taken_out }
+{
+    for n in 1..s.top + 1 {
+        take_turn(s, n, words);
+    }
+}
+
+// The nodes with known values lose their clauses, from 1 on.
+fn drop_all_valued<S: Store>(s: &mut Simplifier<S>)
+    ensures makes { (out : List ℕ) → work_of S.meaning s.new out ≡ each const_drop (nodes_of (work_of S.meaning s.old out)) (work_of S.meaning s.old out) }
+    ensures kept { s.new.taken_out ≡ s.old.taken_out }
+{
+    for n in 1..s.top + 1 {
+        drop_valued(s, n);
+    }
+}
+
+// The pass, unless it is refused: with 10 where it is lent too few working words, with 13 where more than half of the room is live. Its
+// answer is the number of live clauses. After a refusal nothing has changed.
+pub fn const_simplify<S: Store>(s: &mut Simplifier<S>, words: &mut [u32]) -> Result<u32, Fault>
+    ensures makes { (out : List ℕ) → (work_of S.meaning s.new out, result) ≡ const_answer (length words.old) (work_of S.meaning s.old out) }
+    ensures kept { s.new.taken_out ≡ s.old.taken_out }
+    ensures refused { (f : Fault) → result ≡ Err f → (s.new ≡ s.old) × (words.new ≡ words.old) }
+{
+    s.check_lent(words)?;
+    s.check_half()?;
+    s.store.index_off();
+    take_turns(s, words);
+    drop_all_valued(s);
+    Ok(s.store.live())
+}

@@ -5,7 +5,7 @@ use Rattle.rules.specs.Const.{judged}
 use Rattle.rules.specs.Store.{clause_at}
 use Rattle.simplifier.specs.Shown.{work_of}
 use Rattle.simplifier.proofs.Clearings.{on_some, on_none}
-use Rattle.constants.proofs.Judges.{Grows, grows_chains, list_grows, clause_stays, judged_one_grows, Judging, one_more, none_left}
+use Rattle.constants.proofs.Judges.{Grows, grows_chains, list_grows, clause_stays, judging_grows, Judging, one_more, none_left}
 use Rattle.constants.proofs.judging.judge_first.Goals as goal
 
 -- the mark of an answer
@@ -33,7 +33,7 @@ loop-mark-preserved g c =
     (λ out. one_more Cs (work_of g.S.Lists.meaning c.args.s.now out) (work_of g.S.Lists.meaning c.loop-mark.s out) (work_of g.S.Lists.meaning c.judge.new.s out) i c.loop-mark.marks (bool_byte c.judge.result) c.judge.result
     (omega (arith, length-take-le n (M₀.own l) c.requires)) (omega arith) (J out) (ap (λ C. judged (C ∷ []) (work_of g.S.Lists.meaning c.loop-mark.s out)) (sym same) ∙ c.judge.ensures.makes l i at out) (mark_of c.judge.result),
     grows_chains.next M₀ M (g.S.Lists.meaning c.judge.new.s.store) grows
-    (judged_one_grows (clause_at M l i) (work_of g.S.Lists.meaning c.loop-mark.s []) (work_of g.S.Lists.meaning c.judge.new.s []) c.judge.result (c.judge.ensures.makes l i at [])),
+    (judging_grows (clause_at M l i ∷ []) (work_of g.S.Lists.meaning c.loop-mark.s []) (work_of g.S.Lists.meaning c.judge.new.s []) (c.judge.result ∷ []) (c.judge.ensures.makes l i at [])),
     c.next-at.ensures l i (c.judge.ensures.stand c.in-Some.h l i at),
     c.judge.ensures.kept ∙ kept)
 
