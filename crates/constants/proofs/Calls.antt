@@ -14,31 +14,42 @@ abbrev Answer : Type 0
 Answer = Work × Result ℕ Fault
 
 -- a test that refuses, and one that does not
-pub refuses : (b : Bool) (f e : Fault) → tested b f ≡ Err e → (b ≡ false) × (e ≡ f)
+refuses : (b : Bool) (f e : Fault) → Err e ≡ tested b f → (b ≡ false) × (f ≡ e)
 refuses true f e q = absurd cc
 refuses false f e q = (refl, cc)
 
-pub passes : (b : Bool) (f : Fault) (u : Unit {0}) → tested b f ≡ Ok u → b ≡ true
+passes : (b : Bool) (f : Fault) (u : Unit {0}) → Ok u ≡ tested b f → b ≡ true
 passes true f u q = refl
 passes false f u q = absurd cc
 
+-- ## The tests
+
 module _ (n : ℕ) (W : Work) where
-  pub short : leb (need W) n ≡ false → const_answer n W ≡ (W, Err (fault 10 (need W)))
+  -- whether the words are enough, and whether at most half of the room is live
+  abbrev enough : Bool
+  enough = leb (need W) n
+
+  abbrev few : Bool
+  few = leb (live_clauses W.store) (W.store.room / 2)
+
+  pub short : (e : Fault) → Err e ≡ tested enough (fault 10 (need W)) → const_answer n W ≡ (W, Err e)
   unfolding const_answer
-  short e = cond-false {A = Answer} (leb (need W) n) (half W (with_live (const_simplify W))) (W, Err (fault 10 (need W))) e
+  short e q =
+      let (b, f) = refuses enough (fault 10 (need W)) e q in
+      cond-false {A = Answer} enough (half W (with_live (const_simplify W))) (W, Err (fault 10 (need W))) b ∙ ap (λ f. (W, Err f)) f
 
-  module _ (enough : leb (need W) n ≡ true) where
-    pub crowded : leb (live_clauses W.store) (W.store.room / 2) ≡ false → const_answer n W ≡ (W, Err (fault 13 (live_clauses W.store)))
+  module _ (u : Unit {0}) (lent : Ok u ≡ tested enough (fault 10 (need W))) where
+    go_on : const_answer n W ≡ half W (with_live (const_simplify W))
     unfolding const_answer
-    crowded e =
-        cond-true {A = Answer} (leb (need W) n) (half W (with_live (const_simplify W))) (W, Err (fault 10 (need W))) enough
-        ∙ cond-false {A = Answer} (leb (live_clauses W.store) (W.store.room / 2)) (with_live (const_simplify W)) (W, Err (fault 13 (live_clauses W.store))) e
+    go_on = cond-true {A = Answer} enough (half W (with_live (const_simplify W))) (W, Err (fault 10 (need W))) (passes enough (fault 10 (need W)) u lent)
 
-    pub answered : leb (live_clauses W.store) (W.store.room / 2) ≡ true → const_answer n W ≡ with_live (const_simplify W)
-    unfolding const_answer
-    answered e =
-        cond-true {A = Answer} (leb (need W) n) (half W (with_live (const_simplify W))) (W, Err (fault 10 (need W))) enough
-        ∙ cond-true {A = Answer} (leb (live_clauses W.store) (W.store.room / 2)) (with_live (const_simplify W)) (W, Err (fault 13 (live_clauses W.store))) e
+    pub crowded : (e : Fault) → Err e ≡ tested few (fault 13 (live_clauses W.store)) → const_answer n W ≡ (W, Err e)
+    crowded e q =
+        let (b, f) = refuses few (fault 13 (live_clauses W.store)) e q in
+        go_on ∙ cond-false {A = Answer} few (with_live (const_simplify W)) (W, Err (fault 13 (live_clauses W.store))) b ∙ ap (λ f. (W, Err f)) f
+
+    pub answered : (v : Unit {0}) → Ok v ≡ tested few (fault 13 (live_clauses W.store)) → const_answer n W ≡ with_live (const_simplify W)
+    answered v q = go_on ∙ cond-true {A = Answer} few (with_live (const_simplify W)) (W, Err (fault 13 (live_clauses W.store))) (passes few (fault 13 (live_clauses W.store)) v q)
 
 -- ## The pass in three parts
 

@@ -1,12 +1,12 @@
 -- Clauses judged one after another. Assumes nothing.
-use Rattle.std.proofs.Common.{◌≡◌, ℕ, suc, ◌+◌, ◌<◌, ◌≤◌, Bool, true, false, cond, eqb, List, [], ◌∷◌, ◌++◌, length, map, get_or, set, take, drop, Some, None, Option, refl, sym, ap, ◌∙◌, subst, ⊎_elim, append_assoc, arith}
+use Rattle.std.proofs.Common.{◌≡◌, ℕ, suc, ◌+◌, ◌<◌, ◌≤◌, Bool, false, eqb, List, [], ◌∷◌, ◌++◌, length, get_or, set, take, drop, sym, ap, ◌∙◌, subst, ⊎_elim, append_assoc, arith}
 use Rattle.std.proofs.Math.Seq.{take-suc-set, drop-cons}
 use Rattle.std.proofs.lemmas.Bool.{cases_eq, cases_lt}
 use Rattle.std.proofs.lemmas.List.{append-nil, get_or_append_left, get_or_past, get_or-take, drop_all, length-append, map-append, take_all}
 use Rattle.network.specs.Clauses.{last}
-use Rattle.rules.specs.Store.{Meaning, clause_at, enterable, entered, enter, changed}
+use Rattle.rules.specs.Store.{Meaning, clause_at, enterable, entered, enter}
 use Rattle.rules.specs.Lawful.{Lawful}
-use Rattle.rules.specs.Work.{Work, add_simplified, add}
+use Rattle.rules.specs.Work.{Work, add}
 use Rattle.rules.specs.Const.{Fate, goes, shrinks, stays, fate, judged_by, judged}
 use Rattle.rules.proofs.Along.{entry_cases, allowed_along, Chains}
 use Rattle.rules.proofs.Formed.{formed_parts}

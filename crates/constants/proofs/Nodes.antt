@@ -1,9 +1,9 @@
 -- The turns of nodes one after another. Assumes nothing.
-use Rattle.std.proofs.Common.{◌≡◌, ℕ, suc, ◌+◌, ◌*◌, ◌-◌, ◌<◌, ◌≤◌, Bool, true, false, not, is_some, List, [], ◌∷◌, map, length, take, Some, None, Option, refl, sym, ap, ◌∙◌, arith}
-use Rattle.std.proofs.Math.Seq.{take-append_seam, take-length}
+use Rattle.std.proofs.Common.{◌≡◌, ℕ, suc, ◌+◌, ◌*◌, ◌-◌, ◌<◌, ◌≤◌, Bool, true, false, not, is_some, List, [], map, length, take, Some, None, Option, refl, ap, ◌∙◌, arith}
+use Rattle.std.proofs.Math.Seq.{take-append_seam}
 use Rattle.std.proofs.lemmas.Bool.{both_ways}
 use Rattle.rules.specs.Store.{Meaning, from, up_to}
-use Rattle.rules.specs.Work.{Work, storing, own_of, each, nodes_of, clear, clear_all}
+use Rattle.rules.specs.Work.{Work, storing, own_of, each, clear, clear_all}
 use Rattle.rules.specs.Const.{judged, then_negative, both_cleared, const_node, if_known, const_drop}
 use Rattle.constants.proofs.Judges.{Grows}
 

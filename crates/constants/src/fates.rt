@@ -35,5 +35,9 @@ pub fn fate_of(clause: &[u32], values: &[Lbool], left: &mut [u32; 32]) -> Fate
     if last_of(&left[..n]) != last_of(clause) {
         return Fate::Goes;
     }
-    if n < clause.len() { Fate::Shrinks(n) } else { Fate::Stays }
+    if n < clause.len() {
+        Fate::Shrinks(n)
+    } else {
+        Fate::Stays
+    }
 }

@@ -4,10 +4,9 @@ ghost use Rattle.rules.specs.Store.{clause_at};
 ghost use Rattle.simplifier.specs.Marks.{marked};
 ghost use Rattle.simplifier.specs.Shown.{work_of};
 
+use crate::fates::{Fate, fate_of};
 use simplifier::state::Simplifier;
 use store::lists::Lists;
-
-use crate::fates::{Fate, fate_of};
 
 // Judges a clause under the known values: whether it goes. A shorter form is entered beside it. Handles keep their places.
 pub fn judge<S: Lists>(s: &mut Simplifier<S>, h: S::Handle) -> bool

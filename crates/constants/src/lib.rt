@@ -5,6 +5,8 @@
 // (known values), `store` (the traits), `image` (faults) and `rules` (the pass).
 #![tactic(auto)]
 
-pub mod fates;
-pub mod judging;
-pub mod pass;
+mod fates;
+mod judging;
+mod pass;
+
+pub use pass::const_simplify;

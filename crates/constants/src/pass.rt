@@ -5,11 +5,10 @@ ghost use Rattle.rules.specs.Const.{const_drop, const_node};
 ghost use Rattle.rules.specs.Work.{each, nodes_of};
 ghost use Rattle.simplifier.specs.Shown.{work_of};
 
+use crate::judging::judge_first;
 use image::fault::Fault;
 use simplifier::state::Simplifier;
 use store::store::Store;
-
-use crate::judging::judge_first;
 
 // The turn of a node: its clauses as they stand now are judged, and those that go leave at its end.
 fn take_turn<S: Store>(s: &mut Simplifier<S>, n: u32, words: &mut [u32])
@@ -57,8 +56,8 @@ fn drop_all_valued<S: Store>(s: &mut Simplifier<S>)
     ensures makes { (out : List ℕ) → work_of S.meaning s.new out ≡ each const_drop (nodes_of (work_of S.meaning s.old out)) (work_of S.meaning s.old out) }
     ensures kept { s.new.taken_out ≡ s.old.taken_out }
 {
-    for n in 1..s.top + 1 {
-        drop_valued(s, n);
+    for node in 1..s.top + 1 {
+        drop_valued(s, node);
     }
 }
 

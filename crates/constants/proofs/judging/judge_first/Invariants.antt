@@ -1,6 +1,6 @@
 use Rattle.std.proofs.Common.{◌≡◌, ℕ, List, length, take}
 use Rattle.simplifier.specs.Shown.{work_of}
-use Rattle.simplifier.proofs.Clearings.{Cursor}
+use Rattle.simplifier.proofs.Cursors.{Cursor}
 use Rattle.constants.proofs.Judges.{Grows, Judging}
 use Rattle.constants.proofs.judging.judge_first.Given as goal
 

@@ -5,7 +5,7 @@ use Rattle.simplifier.specs.Shown.{work_of}
 use Rattle.constants.proofs.Nodes.{nodes_from}
 use Rattle.constants.proofs.pass.drop_all_valued.Given as goal
 
-abbrev pub invariant-loop-n : goal.invariant-loop-n
-invariant-loop-n g l =
-    ((out : List ℕ) → each const_drop (nodes_from l.fn.s.top l.n) (work_of g.S.Lists.meaning l.s out) ≡ each const_drop (nodes_of (work_of g.S.Lists.meaning l.fn.s out)) (work_of g.S.Lists.meaning l.fn.s out))
+abbrev pub invariant-loop-node : goal.invariant-loop-node
+invariant-loop-node g l =
+    ((out : List ℕ) → each const_drop (nodes_from l.fn.s.top l.node) (work_of g.S.Lists.meaning l.s out) ≡ each const_drop (nodes_of (work_of g.S.Lists.meaning l.fn.s out)) (work_of g.S.Lists.meaning l.fn.s out))
     × (l.s.taken_out ≡ l.fn.s.taken_out)

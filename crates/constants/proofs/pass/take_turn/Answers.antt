@@ -1,7 +1,7 @@
-use Rattle.std.proofs.Common.{◌≡◌, ◌+◌, ◌*◌, ◌≤◌, ◌++◌, [], length, take, arith, ap, sym, ◌∙◌, subst}
+use Rattle.std.proofs.Common.{◌≡◌, ◌+◌, ◌*◌, ◌≤◌, [], length, take, arith, ap, sym, ◌∙◌}
 use Rattle.std.proofs.lemmas.List.{length-take-le}
 use Rattle.rules.specs.Const.{judged}
-use Rattle.rules.specs.Work.{Work, storing, own_of, clear}
+use Rattle.rules.specs.Work.{storing, own_of, clear}
 use Rattle.rules.proofs.Lawful.{own_few}
 use Rattle.simplifier.specs.Marks.{marked}
 use Rattle.simplifier.specs.Shown.{work_of}
@@ -35,8 +35,11 @@ grew g c =
 
 pub judge_first-requires-2 : goal.judge_first-requires-2
 judge_first-requires-2 g c =
-    omega (arith, list_grows (g.S.Lists.meaning c.args.s.now.store) (g.S.Lists.meaning c.judge_first.new.s.store) (grew g (goal.at.judge_first-requires-2 g c).After-judge_first) (2 * c.args.n + 1),
-    length-take-le (c.own_len-first.result + c.own_len.result) c.args.words.now (room_for g (goal.at.judge_first-requires-2 g c).After-own_len))
+    omega (
+      arith,
+      list_grows (g.S.Lists.meaning c.args.s.now.store) (g.S.Lists.meaning c.judge_first.new.s.store) (grew g (goal.at.judge_first-requires-2 g c).After-judge_first) (2 * c.args.n + 1),
+      length-take-le (c.own_len-first.result + c.own_len.result) c.args.words.now (room_for g (goal.at.judge_first-requires-2 g c).After-own_len),
+    )
 
 pub returns-clause-makes : goal.returns-clause-makes
 returns-clause-makes g c out =
@@ -48,9 +51,9 @@ returns-clause-makes g c out =
     let U = work_of g.S.Lists.meaning c.judge_first-2.new.s out in
     let wide = length-take-le (c.own_len-first.result + c.own_len.result) c.args.words.now (room_for g at.After-own_len) in
     let p : judged (own_of W (2 * n)) W ≡ (marked c.judge_first.new.marks, V) =
-        ap (λ Cs. judged Cs W) (sym (list_was M M (grows_chains.same M) (2 * n) (length c.split_at_mut-marks.result.0.now) (omega arith))) ∙ c.judge_first.ensures.makes out in
+    ap (λ Cs. judged Cs W) (sym (list_was M M (grows_chains.same M) (2 * n) (length c.split_at_mut-marks.result.0.now) (omega arith))) ∙ c.judge_first.ensures.makes out in
     let q : judged (own_of W (2 * n + 1)) V ≡ (marked c.judge_first-2.new.marks, U) =
-        ap (λ Cs. judged Cs V) (sym (list_was M (g.S.Lists.meaning c.judge_first.new.s.store) (grew g at.After-judge_first) (2 * n + 1) (length c.split_at_mut-marks.result.1.now) (omega arith))) ∙ c.judge_first-2.ensures.makes out in
+    ap (λ Cs. judged Cs V) (sym (list_was M (g.S.Lists.meaning c.judge_first.new.s.store) (grew g at.After-judge_first) (2 * n + 1) (length c.split_at_mut-marks.result.1.now) (omega arith))) ∙ c.judge_first-2.ensures.makes out in
     c.clear-2.ensures.makes out
     ∙ ap (λ T. storing T (clear (2 * n + 1) (marked c.judge_first-2.new.marks) T.store)) (c.clear.ensures.makes out)
     ∙ sym (node_turn n W V U (marked c.judge_first.new.marks) (marked c.judge_first-2.new.marks) p q)

@@ -14,8 +14,8 @@ loop-n-preserved g c =
     let top = c.args.s.now.top in
     let n = c.loop-n.n in (
       λ out.
-      ap (each const_node (nodes_from top (n + 1))) (c.take_turn.ensures.makes out)
-      ∙ sym (nodes_first const_node top n (work_of g.S.Lists.meaning c.loop-n.s out) (omega arith) (omega arith)) ∙ c.loop-n.invariant.0 out,
+          ap (each const_node (nodes_from top (n + 1))) (c.take_turn.ensures.makes out)
+          ∙ sym (nodes_first const_node top n (work_of g.S.Lists.meaning c.loop-n.s out) (omega arith) (omega arith)) ∙ c.loop-n.invariant.0 out,
       ap (λ W. W.store.room) (c.take_turn.ensures.makes []) ∙ (const_node_keeps n (work_of g.S.Lists.meaning c.loop-n.s []) (g.met.S.Lists.lawful c.loop-n.s.store)).1 ∙ c.loop-n.invariant.1,
       c.take_turn.ensures.kept ∙ c.loop-n.invariant.2,
     )

@@ -2,7 +2,8 @@ use Rattle.std.proofs.Common.{◌-◌, length, arith, ap, sym, ◌∙◌}
 use Rattle.rules.specs.Store.{removed}
 use Rattle.rules.specs.Work.{cleared}
 use Rattle.rules.proofs.Index.{removed_length}
-use Rattle.simplifier.proofs.Clearings.{on_some, on_none, on_removed, marks_below, begins, marked_step, other_step, ends}
+use Rattle.simplifier.proofs.Clearings.{marks_below, begins, marked_step, other_step, ends}
+use Rattle.simplifier.proofs.Cursors.{on_some, on_none, on_removed}
 use Rattle.simplifier.proofs.clearing.clear_marked.Goals as goal
 
 pub loop-at-init : goal.loop-at-init

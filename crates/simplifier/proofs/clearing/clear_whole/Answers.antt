@@ -1,7 +1,8 @@
 use Rattle.std.proofs.Common.{length, arith, ap, refl, sym, ◌∙◌}
 use Rattle.rules.specs.Work.{clear_all}
 use Rattle.rules.proofs.Index.{removed_length}
-use Rattle.simplifier.proofs.Clearings.{on_some, on_none, on_removed, all_step, all_done}
+use Rattle.simplifier.proofs.Clearings.{all_step, all_done}
+use Rattle.simplifier.proofs.Cursors.{on_some, on_none, on_removed}
 use Rattle.simplifier.proofs.clearing.clear_whole.Goals as goal
 
 pub loop-first-init : goal.loop-first-init
