@@ -18,7 +18,7 @@ marks_at ws j = eqb (get_or ws j 0) 1
 unfoldable pub marks_below : ℕ → List ℕ → List Bool
 marks_below n ws = map (marks_at ws) (range_with_len 0 n)
 
-pub mark_at : (n : ℕ) (ws : List ℕ) (j : ℕ) → j < n → get_or (marks_below n ws) j false ≡ eqb (get_or ws j 0) 1
+mark_at : (n : ℕ) (ws : List ℕ) (j : ℕ) → j < n → get_or (marks_below n ws) j false ≡ eqb (get_or ws j 0) 1
 unfolding marks_below
 mark_at n ws j lt = get_or-map-range_with_len (marks_at ws) 0 n j j false lt (omega arith)
 
