@@ -1,0 +1,4 @@
+// The pass `subsume_simplify`: each live clause of a simplifier against those around it.
+#![tactic(auto)]
+
+mod verdicts;
