@@ -1,2 +1,4 @@
 pub mod Lists
 pub mod Refs
+pub mod Shapes
+pub mod Judged

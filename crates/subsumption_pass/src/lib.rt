@@ -1,4 +1,5 @@
 // The pass `subsume_simplify`: each live clause of a simplifier against those around it.
 #![tactic(auto)]
 
+mod meetings;
 mod verdicts;
