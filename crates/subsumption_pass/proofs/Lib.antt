@@ -2,3 +2,4 @@ pub mod Lists
 pub mod Refs
 pub mod Shapes
 pub mod Judged
+pub mod Steps

@@ -136,6 +136,9 @@ uses_follow x n = record {
   retires = λ k j M N h s. ap alive (sym (drop-map (after_retired k j) n (M.uses x)) ∙ ap (drop n) (sym (s.uses x)));
 }
 
+pub alive_both : (Rs Qs : List Ref) → alive (Rs ++ Qs) ≡ alive Rs ++ alive Qs
+alive_both Rs Qs = filter-append (λ r. not (is_dead r)) Rs Qs
+
 pub both_follow : (Q R : Meaning → List Ref) → Follows Q → Follows R → Follows (λ M. Q M ++ R M)
 both_follow Q R q r = record {
   stays = λ M N s. ap (λ Rs. Rs ++ R N) (q.stays M N s) ∙ ap (λ Rs. Q M ++ Rs) (r.stays M N s);
@@ -144,9 +147,6 @@ both_follow Q R q r = record {
       ∙ ap (λ Rs. Rs ++ alive (map (after_retired k j) (R M))) (q.retires k j M N h s) ∙ ap (λ Rs. alive (Q N) ++ Rs) (r.retires k j M N h s)
       ∙ sym (alive_both (Q N) (R N));
 }
-  where
-    alive_both : (Rs Qs : List Ref) → alive (Rs ++ Qs) ≡ alive Rs ++ alive Qs
-    alive_both Rs Qs = filter-append (λ r. not (is_dead r)) Rs Qs
 
 pub none_follow : Follows (λ M. [])
 none_follow = record { stays = λ M N s. refl; retires = λ k j M N h s. refl }

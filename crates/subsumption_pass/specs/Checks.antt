@@ -42,9 +42,9 @@ Stands at M h l i = at h l i × (i < length (M.own l))
 abbrev pub IsLive : {H : Type 0} → (H → ℕ → ℕ → Type 0) → Meaning → H → Type 0
 IsLive at M h = (l : ℕ) × ((i : ℕ) × Stands at M h l i)
 
--- the handle, if there is one, stands for the clause at place i of own l, and otherwise no clause stands there
+-- the handle, if there is one, stands for the clause at place i of own l, and otherwise that is the end of own l
 abbrev pub Next : {H : Type 0} → (H → ℕ → ℕ → Type 0) → Meaning → Option H → ℕ → ℕ → Type 0
-Next at M None l i = length (M.own l) ≤ i
+Next at M None l i = length (M.own l) ≡ i
 Next at M (Some h) l i = Stands at M h l i
 
 -- ## Meetings

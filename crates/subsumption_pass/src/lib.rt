@@ -1,5 +1,6 @@
 // The pass `subsume_simplify`: each live clause of a simplifier against those around it.
 #![tactic(auto)]
 
+mod candidates;
 mod meetings;
 mod verdicts;

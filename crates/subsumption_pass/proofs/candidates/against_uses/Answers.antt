@@ -1,0 +1,71 @@
+use Rattle.std.proofs.Common.{rules, ℕ, ◌≡◌, ◌+◌, ◌<◌, List, [], drop, refl, sym, ap, ◌∙◌, subst, arith, Err}
+use Rattle.std.proofs.Math.ListN.{drop_of_length-le}
+use Rattle.rules.specs.Store.{Meaning, count}
+use Rattle.rules.proofs.Passes.{counts_small}
+use Rattle.subsumption_pass.specs.Checks.{Stands, IsLive}
+use Rattle.subsumption_pass.specs.Candidates.{Goes, Ends, Reaches}
+use Rattle.subsumption_pass.proofs.Steps.{stays_put, reaches_on, reaches_end}
+use Rattle.subsumption_pass.proofs.candidates.against_uses.Goals as goal
+
+pub loop-at-init : goal.loop-at-init
+loop-at-init g c = record {
+  around = c.requires.around;
+  stands = c.first_use-at.ensures;
+  reaches = λ l i a. stays_put (g.S.Lists.at c.args.s.now) c.args.one l i (λ (M : Meaning). M.uses c.args.x) (λ (M : Meaning). drop 0 (M.uses c.args.x)) (g.S.Lists.meaning c.args.s.now) a refl;
+}
+
+pub against_use-requires-clause-live : goal.against_use-requires-clause-live
+against_use-requires-clause-live g c = let (l, p) = c.requires.live in let (i, a) = p in let (i₁, q) = c.loop-at.invariant.reaches l i a in (l, (i₁, q.0))
+
+pub against_use-requires-clause-usage : goal.against_use-requires-clause-usage
+against_use-requires-clause-usage g c = let p = rw c.in-Some.is at c.loop-at.invariant.stands in (c.args.x, (c.loop-at.place, p))
+
+pub against_use-requires-clause-around : goal.against_use-requires-clause-around
+against_use-requires-clause-around g c = c.loop-at.invariant.around
+
+pub returns-in_err-against_use-clause-goes : goal.returns-in_err-against_use-clause-goes
+returns-in_err-against_use-clause-goes g c l i a =
+    let e : c.from_residual.result ≡ Err c.in_err-against_use.field-0.0 = search rules in
+    subst (Goes (g.S.Lists.at c.against_use.new.s) c.args.one l i (λ (M : Meaning). M.uses c.args.x) (λ (M : Meaning). []) (g.S.Lists.meaning c.args.s.now) (g.S.Lists.meaning c.against_use.new.s)) (sym e)
+    (let p = rw c.in-Some.is at c.loop-at.invariant.stands in
+    reaches_end c.args.one l i (λ (M : Meaning). M.uses c.args.x) (λ (M : Meaning). drop c.loop-at.place (M.uses c.args.x)) (g.S.Lists.meaning c.args.s.now)
+    (g.S.Lists.at c.loop-at.s) (g.S.Lists.at c.against_use.new.s) c.in_err-against_use.field-0.0.next (g.S.Lists.meaning c.loop-at.s) (g.S.Lists.meaning c.against_use.new.s)
+    (c.loop-at.invariant.reaches l i a) (λ i₁ b. c.in_err-against_use.ensures.goes c.args.x c.loop-at.place l i₁ p.0 p.1 b))
+
+pub overflow_add-place : goal.overflow_add-place
+overflow_add-place g c =
+    let p = rw c.in-Some.is at c.loop-at.invariant.stands in
+    let M = g.S.Lists.meaning c.loop-at.s in
+    let s = counts_small M (g.met.S.Lists.lawful c.loop-at.s) c.args.x in
+    let w = (g.met.S.Lists.lawful c.loop-at.s).within in
+    let m = g.met.S.Lists.small c.loop-at.s in
+    omega (arith, p.1, s, w, m)
+
+pub loop-at-smaller : goal.loop-at-smaller
+loop-at-smaller g c =
+    let p = rw c.in-Some.is at c.loop-at.invariant.stands in
+    let e = c.in_ok-against_use.ensures.counts c.args.x in
+    omega (arith, p.1, e)
+
+pub loop-at-preserved : goal.loop-at-preserved
+loop-at-preserved g c =
+    let p = rw c.in-Some.is at c.loop-at.invariant.stands in
+    record {
+      around = c.against_use.ensures.around;
+      stands = c.next_use-at.ensures c.loop-at.place (c.against_use.ensures.keeps c.in-Some.usage c.args.x c.loop-at.place p.0);
+      reaches = λ l i a. reaches_on c.args.one l i (λ (M : Meaning). M.uses c.args.x) (λ (M : Meaning). drop c.loop-at.place (M.uses c.args.x)) (g.S.Lists.meaning c.args.s.now)
+          (g.S.Lists.at c.loop-at.s) (g.S.Lists.at c.against_use.new.s) (λ (M : Meaning). drop (c.loop-at.place + 1) (M.uses c.args.x)) (g.S.Lists.meaning c.loop-at.s) (g.S.Lists.meaning c.against_use.new.s)
+          (c.loop-at.invariant.reaches l i a) (λ i₁ b. c.in_ok-against_use.ensures.goes c.args.x c.loop-at.place l i₁ p.0 p.1 b);
+    }
+
+pub returns-clause-goes : goal.returns-clause-goes
+returns-clause-goes g c l i a =
+    let q : count (g.S.Lists.meaning c.loop-at.s) c.args.x ≡ c.loop-at.place = rw c.in_default.is at c.loop-at.invariant.stands in
+    reaches_on c.args.one l i (λ (M : Meaning). M.uses c.args.x) (λ (M : Meaning). drop c.loop-at.place (M.uses c.args.x)) (g.S.Lists.meaning c.args.s.now)
+    (g.S.Lists.at c.loop-at.s) (g.S.Lists.at c.loop-at.s) (λ (M : Meaning). []) (g.S.Lists.meaning c.loop-at.s) (g.S.Lists.meaning c.loop-at.s)
+    (c.loop-at.invariant.reaches l i a)
+    (λ i₁ b. stays_put (g.S.Lists.at c.loop-at.s) c.args.one l i₁ (λ (M : Meaning). drop c.loop-at.place (M.uses c.args.x)) (λ (M : Meaning). []) (g.S.Lists.meaning c.loop-at.s) b
+    (drop_of_length-le ((g.S.Lists.meaning c.loop-at.s).uses c.args.x) (omega (arith, q))))
+
+pub returns-clause-around : goal.returns-clause-around
+returns-clause-around g c = c.loop-at.invariant.around
