@@ -1,5 +1,5 @@
 -- Refs that are passed over, and refs that a change moves. Assumes nothing.
-use Rattle.std.proofs.Common.{◌≡◌, ℕ, zero, suc, ◌+◌, ◌-◌, ◌<◌, ◌≤◌, Bool, true, false, not, cond, ◌&&◌, eqb, List, [], ◌∷◌, ◌++◌, map, length, drop, filter, sym, refl, ap, ◌∙◌, subst, ⊎_elim, arith}
+use Rattle.std.proofs.Common.{◌≡◌, ℕ, zero, suc, ◌+◌, ◌-◌, ◌<◌, ◌≤◌, Bool, true, false, not, cond, ◌&&◌, eqb, List, [], ◌∷◌, ◌++◌, map, length, drop, filter, add-one, sym, refl, ap, ◌∙◌, subst, ⊎_elim, arith}
 use Rattle.std.proofs.lemmas.Bool.{cases_eq, cases_lt}
 use Rattle.std.proofs.lemmas.Bool.Decides.{nat_tests}
 use Rattle.std.proofs.lemmas.List.{length-map, drop-map, map-append}
@@ -150,3 +150,27 @@ both_follow Q R q r = record {
 
 pub none_follow : Follows (λ M. [])
 none_follow = record { stays = λ M N s. refl; retires = λ k j M N h s. refl }
+
+-- refs to the places of own x from n on
+abbrev pub refs_from : ℕ → ℕ → Meaning → List Ref
+refs_from x n M = map (live x) (from n (length (M.own x) - n))
+
+-- the refs after that to place n
+pub refs_after : ℕ → ℕ → Meaning → List Ref
+refs_after x n M = map (live x) (from (suc n) (length (M.own x) - suc n))
+
+pub one_more : (x n : ℕ) (M : Meaning) → n < length (M.own x) → refs_from x n M ≡ live x n ∷ refs_after x n M
+unfolding refs_after
+one_more x n M h = let e : length (M.own x) - n ≡ suc (length (M.own x) - suc n) = omega arith in ap (λ k. map (live x) (from n k)) e
+
+pub after_stays : (x n : ℕ) (M N : Meaning) → SameShape M N → refs_from x (n + 1) N ≡ refs_after x n M
+unfolding refs_after
+after_stays x n M N s = ap (λ k. map (live x) (from k (length (N.own x) - k))) (add-one n) ∙ ap (λ k. map (live x) (from (suc n) (k - suc n))) (s.lengths x)
+
+-- where the clause at place n is retired, fewer refs are left
+pub fewer_left : (x n : ℕ) (M N : Meaning) → n < length (M.own x) → SameShape (retired x n M) N → length (N.own x) - n ≡ length (M.own x) - suc n
+fewer_left x n M N h s = omega (arith, s.lengths x, less_length x n M h)
+
+pub after_gone : (x n : ℕ) (M N : Meaning) → n < length (M.own x) → SameShape (retired x n M) N → alive (map (after_retired x n) (refs_after x n M)) ≡ alive (refs_from x n N)
+unfolding refs_after
+after_gone x n M N h s = ap alive (later_refs x n n (length (M.own x) - suc n) (omega arith) ∙ ap (λ k. map (live x) (from n k)) (sym (fewer_left x n M N h s)))

@@ -1,5 +1,5 @@
 -- A check goes on from candidate to candidate. Assumes nothing.
-use Rattle.std.proofs.Common.{◌≡◌, ℕ, suc, ◌+◌, ◌<◌, List, ◌∷◌, ◌++◌, map, length, get_or, drop, drop-cons, add-one, sym, ap, ◌∙◌, subst, Option, refl}
+use Rattle.std.proofs.Common.{◌≡◌, ℕ, suc, ◌+◌, ◌<◌, List, ◌∷◌, ◌++◌, map, length, get_or, drop, drop-cons, add-one, sym, ap, ◌∙◌, subst, Option, Some, None, refl}
 use Rattle.std.proofs.lemmas.List.{map-append, length-map}
 use Rattle.rules.specs.Store.{Ref, live, dead, Meaning, count, after_retired}
 use Rattle.rules.specs.Lawful.{Lawful}
@@ -68,3 +68,8 @@ use_there M L x n k j h e = L.named x k j (subst (λ r. In r (M.uses x)) e (in_a
 -- a check that has not begun
 pub stays_put : {H : Type 0} (at : H → ℕ → ℕ → Type 0) (one : H) (l i : ℕ) (R R₁ : Meaning → List Ref) (M : Meaning) → Stands at M one l i → R M ≡ R₁ M → Reaches at one l i R R₁ M M
 stays_put at one l i R R₁ M s e = (i, (s, λ Q F. ap (λ Rs. against l i (Rs ++ Q M) M) e))
+
+-- the answer of a store about the next clause
+pub next_found : {H : Type 0} (at : H → ℕ → ℕ → Type 0) (M : Meaning) (l i : ℕ) (o : Option H) → (elim o as (λ v. Type 0) [ None ↦ length (M.own l) ≡ i | Some k ↦ at k l i × (i < length (M.own l)) ]) → Next at M o l i
+next_found at M l i None h = h
+next_found at M l i (Some k) h = h
