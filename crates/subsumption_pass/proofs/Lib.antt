@@ -3,3 +3,5 @@ pub mod Refs
 pub mod Shapes
 pub mod Judged
 pub mod Steps
+pub mod Stages
+pub mod Best

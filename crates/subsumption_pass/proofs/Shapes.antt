@@ -47,7 +47,7 @@ unfolding opposite
 even_neg n = grind (arith, nat_tests)
 
 -- around a node are the uses and clauses of both its literals
-around_both : (M : Meaning) (n : ℕ) → around_size M (2 * n) ≡ length (M.uses (2 * n)) + length (M.uses (2 * n + 1)) + length (M.own (2 * n)) + length (M.own (2 * n + 1))
+pub around_both : (M : Meaning) (n : ℕ) → around_size M (2 * n) ≡ length (M.uses (2 * n)) + length (M.uses (2 * n + 1)) + length (M.own (2 * n)) + length (M.own (2 * n + 1))
 around_both M n = ap (λ y. length (M.uses (2 * n)) + length (M.uses y) + length (M.own (2 * n)) + length (M.own y)) (even_neg n)
 
 pub surrounds_shape : (M N : Meaning) (ws : List ℕ) → SameShape M N → Surrounds M ws → Surrounds N ws

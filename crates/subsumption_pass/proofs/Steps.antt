@@ -1,5 +1,5 @@
 -- A check goes on from candidate to candidate. Assumes nothing.
-use Rattle.std.proofs.Common.{◌≡◌, ℕ, suc, ◌+◌, ◌<◌, List, ◌∷◌, ◌++◌, map, length, get_or, drop, drop-cons, add-one, sym, ap, ◌∙◌, subst, Option, Some, None, refl}
+use Rattle.std.proofs.Common.{append_assoc, ◌≡◌, ℕ, suc, ◌+◌, ◌<◌, List, [], ◌∷◌, ◌++◌, map, length, get_or, drop, drop-cons, add-one, sym, ap, ◌∙◌, subst, Option, Some, None, refl}
 use Rattle.std.proofs.lemmas.List.{map-append, length-map}
 use Rattle.rules.specs.Store.{Ref, live, dead, Meaning, count, after_retired}
 use Rattle.rules.specs.Lawful.{Lawful}
@@ -11,7 +11,7 @@ use Rattle.subsumption_pass.specs.Candidates.{Reaches, Ends}
 use Rattle.subsumption_pass.specs.declared.meetings.Met.{Met}
 use Rattle.subsumption_pass.specs.declared.meetings.Met.TheVariants.{Stays, Gone, Lost}
 use Rattle.subsumption_pass.proofs.Shapes.{retired_uses}
-use Rattle.subsumption_pass.proofs.Refs.{alive_both, against_alive}
+use Rattle.subsumption_pass.proofs.Refs.{both_follow, alive_both, against_alive}
 
 module _ {H : Type 0} (one : H) (l i : ℕ) (R R₁ : Meaning → List Ref) (M : Meaning) where
   -- a dead candidate is passed over
@@ -73,3 +73,13 @@ stays_put at one l i R R₁ M s e = (i, (s, λ Q F. ap (λ Rs. against l i (Rs +
 pub next_found : {H : Type 0} (at : H → ℕ → ℕ → Type 0) (M : Meaning) (l i : ℕ) (o : Option H) → (elim o as (λ v. Type 0) [ None ↦ length (M.own l) ≡ i | Some k ↦ at k l i × (i < length (M.own l)) ]) → Next at M o l i
 next_found at M l i None h = h
 next_found at M l i (Some k) h = h
+
+-- the candidates R, and then others that follow
+module _ {H : Type 0} (at : H → ℕ → ℕ → Type 0) (l i : ℕ) (R Q : Meaning → List Ref) (M N : Meaning) (q : Follows Q) where
+  pub reaches_more : (one : H) → Reaches at one l i R (λ M. []) M N → Reaches at one l i (λ M. R M ++ Q M) Q M N
+  reaches_more one (i₁, p) = let (s, e) = p in
+      (i₁, (s, λ P F. ap (λ Rs. against l i Rs M) (append_assoc (R M) (Q M) (P M)) ∙ e (λ M. Q M ++ P M) (both_follow Q P q F)))
+
+  pub ends_before : (next : Option H) → Ends at next l i R M N → Ends at next l i (λ M. R M ++ Q M) M N
+  ends_before next (p, t) = let (s, e) = t in
+      (p, (s, λ P F. ap (λ Rs. against l i Rs M) (append_assoc (R M) (Q M) (P M)) ∙ e (λ M. Q M ++ P M) (both_follow Q P q F)))

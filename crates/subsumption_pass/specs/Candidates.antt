@@ -1,6 +1,7 @@
 -- A clause against a run of its candidates, whatever others are left after them. Assumes nothing.
 use Rattle.std.specs.Prelude.{◌≡◌, ℕ, List, ◌++◌, Option, Result, Ok, Err}
 use Rattle.rules.specs.Store.{Ref, Meaning}
+use Rattle.rules.specs.Subsume.{checked}
 use Rattle.subsumption_pass.specs.Checks.{against, Follows, Stands, Next}
 use Rattle.subsumption_pass.specs.declared.candidates.Lost.{Lost}
 
@@ -17,3 +18,7 @@ Ends at next l i R M N = (p : ℕ) × (Next at N next l p × ((Q : Meaning → L
 abbrev pub Goes : {H : Type 0} → (H → ℕ → ℕ → Type 0) → H → ℕ → ℕ → (Meaning → List Ref) → (Meaning → List Ref) → Meaning → Meaning → Result (Unit {0}) (Lost H) → Type 0
 Goes at one l i R R₁ M N (Ok u) = Reaches at one l i R R₁ M N
 Goes at one l i R R₁ M N (Err lost) = Ends at lost.next l i R M N
+
+-- the clause at place i of own l is checked, and the next stands at the place to look at next
+abbrev pub Checked : {H : Type 0} → (H → ℕ → ℕ → Type 0) → ℕ → ℕ → Meaning → Meaning → Option H → Type 0
+Checked at l i M N next = (p : ℕ) × (Next at N next l p × (checked l i M ≡ (N, p)))

@@ -1,11 +1,12 @@
 // A clause against the candidates around a literal.
 ghost use Rattle.rules.specs.Store.{Meaning, count};
-ghost use Rattle.rules.specs.Subsume.{refs_of};
+ghost use Rattle.rules.specs.Subsume.{around as all_around, refs_of};
 ghost use Rattle.std.specs.Prelude.{◌≡◌, ℕ, ◌+◌, ◌<◌, [], drop, OnOk};
 ghost use Rattle.subsumption_pass.specs.Checks.{Stands, IsLive, Surrounds};
 ghost use Rattle.subsumption_pass.specs.Candidates.{Goes};
 
 use crate::meetings::{Met, meet};
+use clause::Lit;
 use store::store::Store;
 
 // A check ends where its clause is lost. The next clause, if there is one, stands at its place.
@@ -86,4 +87,23 @@ fn against_own<S: Store>(
         }
     }
     Ok(())
+}
+
+// A clause against all that stand around x: the uses and the own clauses of x and of its opposite.
+pub(crate) fn against_all<S: Store>(
+    s: &mut S,
+    around: &mut [u32],
+    one: S::Handle,
+    x: Lit,
+) -> Result<(), Lost<S::Handle>>
+    requires live { IsLive (S.at s.old) (S.meaning s.old) one }
+    requires around { Surrounds (S.meaning s.old) around.old }
+    ensures goes { (l i : ℕ) → Stands (S.at s.old) (S.meaning s.old) one l i → Goes (S.at s.new) one l i (λ (M : Meaning). all_around M x.word) (λ M. []) (S.meaning s.old) (S.meaning s.new) result }
+    ensures around { Surrounds (S.meaning s.new) around.new }
+{
+    let opposite = x.opposite();
+    against_uses(s, around, one, x.word)?;
+    against_uses(s, around, one, opposite.word)?;
+    against_own(s, around, one, x.word)?;
+    against_own(s, around, one, opposite.word)
 }

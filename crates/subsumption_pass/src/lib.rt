@@ -2,5 +2,6 @@
 #![tactic(auto)]
 
 mod candidates;
+mod checks;
 mod meetings;
 mod verdicts;
