@@ -5,3 +5,4 @@ pub mod Judged
 pub mod Steps
 pub mod Stages
 pub mod Best
+pub mod Whole

@@ -1,5 +1,5 @@
 -- The four runs of candidates around a literal, one after another. Assumes nothing.
-use Rattle.std.proofs.Common.{◌≡◌, ℕ, List, [], ◌++◌, append_assoc, ap, ◌∙◌, subst, Option, Ok, Err, Result}
+use Rattle.std.proofs.Common.{◌≡◌, ℕ, List, [], ◌++◌, append_assoc, sym, ap, ◌∙◌, Option, Ok, Err, Result}
 use Rattle.network.specs.Assignments.{opposite}
 use Rattle.rules.specs.Store.{Ref, Meaning}
 use Rattle.rules.specs.Subsume.{refs_of, around}
@@ -34,8 +34,8 @@ pub all_goes : {H : Type 0} (at : H → ℕ → ℕ → Type 0) (one : H) (l i x
 all_goes {H = H} at one l i x y M N r e h = by r h
   where
     same : around M x ≡ all_left x y M
-    same = subst (λ y. ((M.uses x ++ M.uses y) ++ refs_of M x) ++ refs_of M y ≡ all_left x y M) e
-        (append_assoc (M.uses x ++ M.uses y) (refs_of M x) (refs_of M y) ∙ append_assoc (M.uses x) (M.uses y) (owns_left x y M))
+    same = ap (λ y. ((M.uses x ++ M.uses y) ++ refs_of M x) ++ refs_of M y) (sym e)
+        ∙ append_assoc (M.uses x ++ M.uses y) (refs_of M x) (refs_of M y) ∙ append_assoc (M.uses x) (M.uses y) (owns_left x y M)
 
     by : (r : Result (Unit {0}) (Lost H)) → Goes at one l i (all_left x y) (λ M. []) M N r → Goes at one l i (λ M. around M x) (λ M. []) M N r
     by (Ok u) (i₁, p) = let (s, f) = p in (i₁, (s, λ Q F. ap (λ Rs. against l i (Rs ++ Q M) M) same ∙ f Q F))

@@ -1,0 +1,35 @@
+-- Whole checks, and walks along own lists. Assumes nothing.
+use Rattle.std.proofs.Common.{◌≡◌, ℕ, zero, suc, ◌+◌, ◌-◌, ◌<◌, ◌≤◌, cond, ltb, List, [], ◌++◌, append-nil, length, get_or, add-one, sym, refl, ap, ◌∙◌, subst, ⊎_elim, Option, Some, None, arith}
+use Rattle.network.specs.Lists.{In}
+use Rattle.network.specs.Clauses.{last}
+use Rattle.rules.specs.Store.{Ref, Meaning}
+use Rattle.rules.specs.Lawful.{Lawful}
+use Rattle.rules.specs.Subsume.{best, around, checked_from, checked}
+use Rattle.rules.proofs.Places.{in_at}
+use Rattle.rules.proofs.Formed.{formed_parts, front_below}
+use Rattle.rules.proofs.TakenOut.{front_or_last}
+use Rattle.subsumption_pass.specs.Checks.{against, Follows, Stands, Next}
+use Rattle.subsumption_pass.specs.Candidates.{Reaches, Ends, Checked}
+use Rattle.subsumption_pass.proofs.Refs.{none_follow}
+
+-- a live clause names only literals of the nodes up to 1,023
+pub literals_small : (M : Meaning) → Lawful M → (l i : ℕ) → i < length (M.own l) → (C : List ℕ) → C ≡ get_or (M.own l) i [] → (x : ℕ) → In x C → x < 2048
+literals_small M L l i h C e x m =
+    let D = get_or (M.own l) i [] in
+    let F = formed_parts D (L.formed l D (in_at (M.own l) i [] h)) in
+    ⊎_elim (λ f. omega (arith, front_below D F.order x f, F.small)) (λ q. omega (arith, q, F.small)) (front_or_last D x (subst (In x) e m))
+
+module _ (l i : ℕ) (M : Meaning) (x : ℕ) (b : x ≡ best M (get_or (M.own l) i [])) where
+  -- a check is that against all that stand around the best literal
+  checked_is : checked l i M ≡ against l i (around M x ++ []) M
+  unfolding checked
+  checked_is = ap (λ y. against l i (around M y) M) (sym b) ∙ ap (λ Rs. against l i Rs M) (sym (append-nil (around M x)))
+
+  module _ {H : Type 0} (at : H → ℕ → ℕ → Type 0) (N : Meaning) where
+    pub checked_lost : (next : Option H) → Ends at next l i (λ M. around M x) M N → Checked at l i M N next
+    checked_lost next (p, q) = let (t, e) = q in (p, (t, checked_is ∙ e (λ M. []) none_follow))
+
+    pub checked_through : (one : H) (next : Option H) → Reaches at one l i (λ M. around M x) (λ M. []) M N → ((i₁ : ℕ) → at one l i₁ → Next at N next l (i₁ + 1)) → Checked at l i M N next
+    unfolding checked_from
+    checked_through one next (i₁, q) f = let (s, e) = q in
+        (i₁ + 1, (f i₁ s.0, checked_is ∙ e (λ M. []) none_follow ∙ ap (λ n. (N, n)) (sym (add-one i₁))))
