@@ -1,10 +1,12 @@
 -- Whole checks, and walks along own lists. Assumes nothing.
 use Rattle.std.proofs.Common.{◌≡◌, ℕ, zero, suc, ◌+◌, ◌-◌, ◌<◌, ◌≤◌, cond, ltb, List, [], ◌++◌, append-nil, length, get_or, add-one, sym, refl, ap, ◌∙◌, subst, ⊎_elim, Option, Some, None, arith}
+use Rattle.std.proofs.lemmas.Bool.{cond-true, cond-false, lt-ltb}
+use Rattle.std.proofs.lemmas.Bool.Decides.{nat_tests}
 use Rattle.network.specs.Lists.{In}
 use Rattle.network.specs.Clauses.{last}
 use Rattle.rules.specs.Store.{Ref, Meaning}
 use Rattle.rules.specs.Lawful.{Lawful}
-use Rattle.rules.specs.Subsume.{best, around, checked_from, checked}
+use Rattle.rules.specs.Subsume.{best, around, checked_from, checked, walked, walk_on}
 use Rattle.rules.proofs.Places.{in_at}
 use Rattle.rules.proofs.Formed.{formed_parts, front_below}
 use Rattle.rules.proofs.TakenOut.{front_or_last}
@@ -33,3 +35,23 @@ module _ (l i : ℕ) (M : Meaning) (x : ℕ) (b : x ≡ best M (get_or (M.own l)
     unfolding checked_from
     checked_through one next (i₁, q) f = let (s, e) = q in
         (i₁ + 1, (f i₁ s.0, checked_is ∙ e (λ M. []) none_follow ∙ ap (λ n. (N, n)) (sym (add-one i₁))))
+
+-- ## Walks
+
+-- at the end of the own list nothing is left of a walk
+pub walk_ends : (f l i : ℕ) (M : Meaning) → length (M.own l) ≡ i → walked f l i M ≡ M
+unfolding walked
+walk_ends zero l i M e = refl
+walk_ends (suc f) l i M e = cond-false (ltb i (length (M.own l))) (walk_on (checked l i M) (walked f l)) M (grind (arith, nat_tests))
+
+pub walk_done : (f l i : ℕ) (M : Meaning) → f ≡ 0 → walked f l i M ≡ M
+unfolding walked
+walk_done f l i M e = ap (λ n. walked n l i M) e
+
+-- one clause more of a walk
+pub walk_step : (f k l i p : ℕ) (M N : Meaning) → k < f → i < length (M.own l) → checked l i M ≡ (N, p) → walked (f - k) l i M ≡ walked (f - (k + 1)) l p N
+unfolding walked
+walk_step f k l i p M N h li e =
+    ap (λ n. walked n l i M) (let q : f - k ≡ suc (f - (k + 1)) = omega arith in q)
+    ∙ cond-true (ltb i (length (M.own l))) (walk_on (checked l i M) (walked (f - (k + 1)) l)) M (lt-ltb i (length (M.own l)) li)
+    ∙ ap (λ r. walk_on r (walked (f - (k + 1)) l)) e

@@ -4,4 +4,7 @@
 mod candidates;
 mod checks;
 mod meetings;
+mod pass;
 mod verdicts;
+
+pub use pass::subsume_simplify;
