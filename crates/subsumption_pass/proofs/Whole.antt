@@ -4,7 +4,10 @@ use Rattle.std.proofs.lemmas.Bool.{cond-true, cond-false, lt-ltb}
 use Rattle.std.proofs.lemmas.Bool.Decides.{nat_tests}
 use Rattle.network.specs.Lists.{In}
 use Rattle.network.specs.Clauses.{last}
-use Rattle.rules.specs.Store.{Ref, Meaning}
+use Rattle.rules.specs.Store.{Ref, Meaning, from, up_to, count}
+use Rattle.rules.specs.Work.{each}
+use Rattle.rules.proofs.Lawful.{own_few}
+use Rattle.rules.proofs.Passes.{counts_small}
 use Rattle.rules.specs.Lawful.{Lawful}
 use Rattle.rules.specs.Subsume.{best, around, checked_from, checked, walked, walk_on}
 use Rattle.rules.proofs.Places.{in_at}
@@ -55,3 +58,15 @@ walk_step f k l i p M N h li e =
     ap (λ n. walked n l i M) (let q : f - k ≡ suc (f - (k + 1)) = omega arith in q)
     ∙ cond-true (ltb i (length (M.own l))) (walk_on (checked l i M) (walked (f - (k + 1)) l)) M (lt-ltb i (length (M.own l)) li)
     ∙ ap (λ r. walk_on r (walked (f - (k + 1)) l)) e
+
+-- one number more in turn
+each_from : {Y : Type 0} (f : ℕ → Y → Y) (i n : ℕ) (y : Y) → each f (from i (suc n)) y ≡ f (i + n) (each f (from i n) y)
+each_from f i zero y = ap (λ k. f k y) (omega arith)
+each_from f i (suc n) y = each_from f (suc i) n (f i y) ∙ ap (λ k. f k (each f (from (suc i) n) (f i y))) (let q : suc i + n ≡ i + suc n = omega arith in q)
+
+pub each_last : {Y : Type 0} (f : ℕ → Y → Y) (n : ℕ) (y : Y) → each f (up_to (n + 1)) y ≡ f n (each f (up_to n) y)
+each_last f n y = ap (λ k. each f (up_to k) y) (add-one n) ∙ each_from f 0 n y ∙ ap (λ k. f k (each f (from 0 n) y)) (let q : 0 + n ≡ n = omega arith in q)
+
+-- no literal has more uses or own clauses than the largest room
+pub sizes_few : (M : Meaning) → Lawful M → M.room ≤ 4096 → (x : ℕ) → (count M x ≤ 4096) × (length (M.own x) ≤ 4096)
+sizes_few M L r x = (omega (arith, counts_small M L x, L.within), omega (arith, own_few M L x))

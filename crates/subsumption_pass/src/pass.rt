@@ -1,10 +1,10 @@
 // The pass as a whole.
 ghost use Rattle.rules.specs.Calls.{subsume_answer};
-ghost use Rattle.rules.specs.Store.{up_to};
+ghost use Rattle.rules.specs.Store.{count, up_to};
 ghost use Rattle.rules.specs.Subsume.{walk};
 ghost use Rattle.rules.specs.Work.{each};
 ghost use Rattle.simplifier.specs.Shown.{work_of};
-ghost use Rattle.std.specs.Prelude.{◌≡◌, ℕ, ◌≤◌, List, length, OnErr};
+ghost use Rattle.std.specs.Prelude.{◌≡◌, ℕ, ◌+◌, ◌≤◌, List, length, OnErr};
 ghost use Rattle.subsumption_pass.specs.Checks.{Surrounds};
 
 use crate::checks::walk_own;
@@ -12,14 +12,21 @@ use image::fault::{Fault, Refusal};
 use simplifier::state::Simplifier;
 use store::store::Store;
 
-// Writes for each node how many uses and own clauses there are of its two literals.
+// How many clauses the literal x stands in, as the index has them: its uses and its own clauses.
+fn clauses_with<S: Store>(s: &S, x: u32) -> u32
+    ensures sum { result ≡ count (S.meaning s.now) x + length ((S.meaning s.now).own x) }
+    ensures few { result ≤ 8192 }
+{
+    s.count(x) + s.own_len(x)
+}
+
+// Writes for each node how many clauses stand around it.
 fn surround<S: Store>(s: &S, around: &mut [u32])
     requires { 1024 ≤ length around.old }
     ensures { Surrounds (S.meaning s.now) around.new }
 {
     for n in 0..1024u32 {
-        let (x, y) = (2 * n, 2 * n + 1);
-        around[n as usize] = s.count(x) + s.count(y) + s.own_len(x) + s.own_len(y);
+        around[n as usize] = clauses_with(s, 2 * n) + clauses_with(s, 2 * n + 1);
     }
 }
 
