@@ -1,15 +1,18 @@
 -- Whole checks, and walks along own lists. Assumes nothing.
-use Rattle.std.proofs.Common.{◌≡◌, ℕ, zero, suc, ◌+◌, ◌-◌, ◌<◌, ◌≤◌, cond, ltb, List, [], ◌++◌, append-nil, length, get_or, add-one, sym, refl, ap, ◌∙◌, subst, ⊎_elim, Option, Some, None, arith}
+use Rattle.std.proofs.Common.{◌≡◌, ℕ, zero, suc, ◌+◌, ◌-◌, ◌<◌, ◌≤◌, cond, ltb, leb, List, [], ◌++◌, append-nil, length, get_or, add-one, sym, refl, ap, ◌∙◌, subst, ⊎_elim, Option, Some, None, Ok, Err, arith}
 use Rattle.std.proofs.lemmas.Bool.{cond-true, cond-false, lt-ltb}
 use Rattle.std.proofs.lemmas.Bool.Decides.{nat_tests}
 use Rattle.network.specs.Lists.{In}
 use Rattle.network.specs.Clauses.{last}
-use Rattle.rules.specs.Store.{Ref, Meaning, from, up_to, count}
-use Rattle.rules.specs.Work.{each}
+use Rattle.rules.specs.Store.{Ref, Meaning, from, up_to, count, live_clauses, index_on, index_off}
+use Rattle.rules.specs.Work.{Work, storing, literals_of, each}
 use Rattle.rules.proofs.Lawful.{own_few}
 use Rattle.rules.proofs.Passes.{counts_small}
 use Rattle.rules.specs.Lawful.{Lawful}
-use Rattle.rules.specs.Subsume.{best, around, checked_from, checked, walked, walk_on}
+use Rattle.rules.specs.Subsume.{best, around, checked_from, checked, walked, walk_on, walk, subsume_simplify}
+use Rattle.rules.specs.Calls.{need, with_live, subsume_answer}
+use Rattle.image.specs.Faults.{fault}
+use Rattle.image.specs.declared.fault.Fault.{Fault}
 use Rattle.rules.proofs.Places.{in_at}
 use Rattle.rules.proofs.Formed.{formed_parts, front_below}
 use Rattle.rules.proofs.TakenOut.{front_or_last}
@@ -70,3 +73,16 @@ each_last f n y = ap (λ k. each f (up_to k) y) (add-one n) ∙ each_from f 0 n 
 -- no literal has more uses or own clauses than the largest room
 pub sizes_few : (M : Meaning) → Lawful M → M.room ≤ 4096 → (x : ℕ) → (count M x ≤ 4096) × (length (M.own x) ≤ 4096)
 sizes_few M L r x = (omega (arith, counts_small M L x, L.within), omega (arith, own_few M L x))
+
+-- ## The pass
+
+pub refused : (n : ℕ) (W : Work) (f : Fault) → n < need W → f ≡ fault 10 (need W) → (W, Err f) ≡ subsume_answer n W
+unfolding subsume_answer
+refused n W f h e = ap (λ f. (W, Err f)) e ∙ sym (cond-false (leb (need W) n) (with_live (subsume_simplify W)) (W, Err (fault 10 (need W))) (grind (arith, nat_tests)))
+
+pub answered : (n k : ℕ) (W : Work) (M N O : Meaning) → need W ≤ n → M ≡ index_on W.store → N ≡ each walk (literals_of W) M → O ≡ index_off N → k ≡ live_clauses O → (storing W O, Ok k) ≡ subsume_answer n W
+unfolding subsume_answer subsume_simplify
+answered n k W M N O h a b d e =
+    ap (λ k. (storing W O, Ok k)) e
+    ∙ ap (λ O. with_live (storing W O)) (d ∙ ap index_off (b ∙ ap (each walk (literals_of W)) a))
+    ∙ sym (cond-true (leb (need W) n) (with_live (subsume_simplify W)) (W, Err (fault 10 (need W))) (grind (arith, nat_tests)))
