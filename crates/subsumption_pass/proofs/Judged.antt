@@ -1,10 +1,10 @@
 -- What a check makes of one candidate, by the verdict. Assumes nothing.
-use Rattle.std.proofs.Common.{◌≡◌, ℕ, suc, ◌<◌, Bool, true, false, ◌&&◌, cond, eqb, List, [], ◌∷◌, map, length, get_or, sym, refl, ap, ◌∙◌, ◌⊎◌, inl, inr, ⊎_elim, subst, arith}
+use Rattle.std.proofs.Common.{◌≡◌, ℕ, ◌<◌, Bool, true, false, ◌&&◌, cond, eqb, List, [], ◌∷◌, map, length, get_or, sym, refl, ap, ◌∙◌, subst, arith}
 use Rattle.std.proofs.lemmas.Bool.{cond-true, cond-false}
 use Rattle.std.proofs.lemmas.Bool.Decides.{nat_tests}
 use Rattle.std.proofs.lemmas.List.{length-map}
 use Rattle.rules.specs.Store.{Ref, live, Meaning, allowed, droppable, after_retired, retired, shortened, retire, shorten}
-use Rattle.rules.specs.Subsume.{Verdict, apart, subsumed, merged, both_lost, long_lost, strengthened, verdict, place_after, on_verdict, checked_from}
+use Rattle.rules.specs.Subsume.{Verdict, both_lost, verdict, place_after, on_verdict, checked_from}
 use Rattle.rules.proofs.Answers.{retire_yes}
 use Rattle.rules.proofs.Subsume.{retire_place}
 use Rattle.subsumption_pass.specs.Checks.{against, SameShape}

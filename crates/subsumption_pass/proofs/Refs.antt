@@ -1,11 +1,11 @@
 -- Refs that are passed over, and refs that a change moves. Assumes nothing.
-use Rattle.std.proofs.Common.{◌≡◌, ℕ, zero, suc, ◌+◌, ◌-◌, ◌<◌, ◌≤◌, Bool, true, false, not, cond, ◌&&◌, eqb, List, [], ◌∷◌, ◌++◌, map, length, drop, filter, add-one, sym, refl, ap, ◌∙◌, subst, ⊎_elim, arith}
-use Rattle.std.proofs.lemmas.Bool.{cases_eq, cases_lt}
+use Rattle.std.proofs.Common.{◌≡◌, ℕ, zero, suc, ◌+◌, ◌-◌, ◌<◌, ◌≤◌, Bool, true, false, not, cond, ◌&&◌, eqb, List, [], ◌∷◌, ◌++◌, map, length, drop, add-one, sym, refl, ap, ◌∙◌, subst, ⊎_elim, arith}
+use Rattle.std.proofs.lemmas.Bool.{cases_eq}
 use Rattle.std.proofs.lemmas.Bool.Decides.{nat_tests}
 use Rattle.std.proofs.lemmas.List.{length-map, drop-map, map-append}
 use Rattle.std.proofs.lemmas.List.Elements.{filter-append}
 use Rattle.std.proofs.lemmas.List.Edits.{length-remove}
-use Rattle.rules.specs.Store.{Ref, live, dead, Meaning, is_dead, from, up_to, clause_at, after_retired, retired}
+use Rattle.rules.specs.Store.{Ref, live, dead, Meaning, is_dead, from, clause_at, after_retired, retired}
 use Rattle.rules.specs.Subsume.{Verdict, apart, subsumed, merged, both_lost, long_lost, strengthened, verdict, on_verdict, checked_from, refs_of}
 use Rattle.rules.proofs.Places.{retired_own, retired_apart}
 use Rattle.subsumption_pass.specs.Checks.{alive, against, SameShape, Follows}
@@ -36,7 +36,7 @@ longer (suc f) l i (dead ∷ Rs) M h = longer f l i Rs M (omega arith)
 longer (suc f) l i (live k j ∷ Rs) M h =
     let a = longer f l i Rs M (omega arith) in
     let b = verdict_alike (verdict (clause_at M l i) (clause_at M k j)) l i k j Rs Rs M (λ i₁ Rs₁ M₁. checked_from (suc f) l i₁ Rs₁ M₁) (λ i₁ Rs₁ M₁. checked_from f l i₁ Rs₁ M₁) (λ M₁ p. (M₁, p))
-        (λ i₁ M₁. longer f l i₁ Rs M₁ (omega arith)) (λ i₁ M₁. longer f l i₁ (map (after_retired k j) Rs) M₁ (omega (arith, length-map Rs (after_retired k j)))) in
+    (λ i₁ M₁. longer f l i₁ Rs M₁ (omega arith)) (λ i₁ M₁. longer f l i₁ (map (after_retired k j) Rs) M₁ (omega (arith, length-map Rs (after_retired k j)))) in
     cond_alike (eqb k l && eqb j i) a b
 
 more : (d l i : ℕ) (Rs : List Ref) (M : Meaning) → checked_from (d + length Rs) l i Rs M ≡ against l i Rs M
@@ -62,10 +62,10 @@ passed (suc f) l i (dead ∷ Rs) M h = passed f l i Rs M (omega arith) ∙ sym (
 passed (suc f) l i (live k j ∷ Rs) M h =
     let a = passed f l i Rs M (omega arith) in
     let b = verdict_alike (verdict (clause_at M l i) (clause_at M k j)) l i k j Rs (alive Rs) M (λ i₁ Rs₁ M₁. checked_from f l i₁ Rs₁ M₁) (λ i₁ Rs₁ M₁. checked_from f l i₁ Rs₁ M₁) (λ M₁ p. (M₁, p))
-        (λ i₁ M₁. passed f l i₁ Rs M₁ (omega arith))
-        (λ i₁ M₁. passed f l i₁ (map (after_retired k j) Rs) M₁ (omega (arith, length-map Rs (after_retired k j)))
-        ∙ ap (λ Qs. checked_from f l i₁ Qs M₁) (sym (alive_map k j Rs))
-        ∙ sym (passed f l i₁ (map (after_retired k j) (alive Rs)) M₁ (omega (arith, length-map (alive Rs) (after_retired k j), alive_few Rs)))) in
+    (λ i₁ M₁. passed f l i₁ Rs M₁ (omega arith))
+    (λ i₁ M₁. passed f l i₁ (map (after_retired k j) Rs) M₁ (omega (arith, length-map Rs (after_retired k j)))
+    ∙ ap (λ Qs. checked_from f l i₁ Qs M₁) (sym (alive_map k j Rs))
+    ∙ sym (passed f l i₁ (map (after_retired k j) (alive Rs)) M₁ (omega (arith, length-map (alive Rs) (after_retired k j), alive_few Rs)))) in
     cond_alike (eqb k l && eqb j i) a b
 
 -- a check against refs is one against those of them that are alive

@@ -1,5 +1,5 @@
 -- How many uses and clauses there are after a change. Assumes nothing.
-use Rattle.std.proofs.Common.{◌≡◌, ℕ, suc, ◌+◌, ◌-◌, ◌*◌, ◌<◌, ◌≤◌, cond, Bool, true, false, eqb, List, [], map, length, get_or, set, sym, refl, ap, ◌∙◌, subst, ⊎_elim, arith}
+use Rattle.std.proofs.Common.{◌≡◌, ℕ, ◌+◌, ◌-◌, ◌*◌, ◌<◌, ◌≤◌, cond, Bool, true, false, eqb, List, [], map, length, get_or, set, sym, refl, ap, ◌∙◌, subst, ⊎_elim, arith}
 use Rattle.std.proofs.lemmas.Bool.{cases_eq}
 use Rattle.std.proofs.lemmas.Bool.Decides.{nat_tests}
 use Rattle.std.proofs.lemmas.List.{length-map, length-set, get_or-set_other, get_or-set_same}
@@ -70,9 +70,18 @@ module _ (M : Meaning) (ws : List ℕ) (S : Surrounds M ws) (l i n : ℕ) (h : i
       (λ d. let p : 2 * m ≡ l → ⊥ = λ w. d (omega arith) in let r : 2 * m + 1 ≡ l → ⊥ = λ w. d (omega arith) in grind (arith, nat_tests)) (cases_eq m n)
 
   around_less : (m : ℕ) → around_size (retired l i M) (2 * m) + cond (eqb m n) 1 0 ≡ around_size M (2 * m)
-  around_less m = omega (arith, around_both M m, around_both (retired l i M) m,
-      ap length (retired_uses M l i (2 * m)), length-map (M.uses (2 * m)) (after_retired l i), ap length (retired_uses M l i (2 * m + 1)), length-map (M.uses (2 * m + 1)) (after_retired l i),
-      less M l i (2 * m) h, less M l i (2 * m + 1) h, one_of_two m)
+  around_less m = omega (
+    arith,
+    around_both M m,
+    around_both (retired l i M) m,
+    ap length (retired_uses M l i (2 * m)),
+    length-map (M.uses (2 * m)) (after_retired l i),
+    ap length (retired_uses M l i (2 * m + 1)),
+    length-map (M.uses (2 * m + 1)) (after_retired l i),
+    less M l i (2 * m) h,
+    less M l i (2 * m + 1) h,
+    one_of_two m,
+  )
 
   around_one : around_size (retired l i M) (2 * n) + 1 ≡ around_size M (2 * n)
   around_one = grind (arith, nat_tests, around_less n)

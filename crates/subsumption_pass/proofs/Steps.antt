@@ -31,16 +31,28 @@ module _ {H : Type 0} (one : H) (l i : ℕ) (R R₁ : Meaning → List Ref) (M :
 
   module _ (at : H → ℕ → ℕ → Type 0) (other : H) (k j : ℕ) (T : List Ref) (N : Meaning) (r : R M ≡ live k j ∷ T) where
     pub past_stays : Meets at M N one other l i k j Stays → R₁ N ≡ T → Reaches at one l i R R₁ M N
-    past_stays (s, t, p, e) q = (i, (s, λ Q F.
-        ap (λ Rs. against l i (Rs ++ Q M) M) r ∙ e (T ++ Q M)
-        ∙ ap (λ Rs. against l i (T ++ Rs) N) (sym (F.stays M N p)) ∙ ap (λ Rs. against l i (Rs ++ Q N) N) (sym q)))
+    past_stays (s, t, p, e) q = (
+      i,
+      (
+        s,
+        λ Q F.
+            ap (λ Rs. against l i (Rs ++ Q M) M) r ∙ e (T ++ Q M)
+            ∙ ap (λ Rs. against l i (T ++ Rs) N) (sym (F.stays M N p)) ∙ ap (λ Rs. against l i (Rs ++ Q N) N) (sym q),
+      ),
+    )
 
     pub past_gone : (next : Option H) → Meets at M N one other l i k j (Gone next) → j < length (M.own k) → alive (map (after_retired k j) T) ≡ alive (R₁ N) → Reaches at one l i R R₁ M N
-    past_gone next (s, t, p, e) lj q = (place_after k j l i, (s, λ Q F.
-        ap (λ Rs. against l i (Rs ++ Q M) M) r ∙ e (T ++ Q M)
-        ∙ against_alive l (place_after k j l i) (map (after_retired k j) (T ++ Q M)) (R₁ N ++ Q N) N (
-        ap alive (map-append (after_retired k j) T (Q M)) ∙ alive_both (map (after_retired k j) T) (map (after_retired k j) (Q M))
-        ∙ ap (λ Rs. Rs ++ alive (map (after_retired k j) (Q M))) q ∙ ap (λ Rs. alive (R₁ N) ++ Rs) (F.retires k j M N lj p) ∙ sym (alive_both (R₁ N) (Q N)))))
+    past_gone next (s, t, p, e) lj q = (
+      place_after k j l i,
+      (
+        s,
+        λ Q F.
+            ap (λ Rs. against l i (Rs ++ Q M) M) r ∙ e (T ++ Q M)
+            ∙ against_alive l (place_after k j l i) (map (after_retired k j) (T ++ Q M)) (R₁ N ++ Q N) N (
+            ap alive (map-append (after_retired k j) T (Q M)) ∙ alive_both (map (after_retired k j) T) (map (after_retired k j) (Q M))
+            ∙ ap (λ Rs. Rs ++ alive (map (after_retired k j) (Q M))) q ∙ ap (λ Rs. alive (R₁ N) ++ Rs) (F.retires k j M N lj p) ∙ sym (alive_both (R₁ N) (Q N))),
+      ),
+    )
 
     pub ends_lost : (next : Option H) → Meets at M N one other l i k j (Lost next) → Ends at next l i R M N
     ends_lost next (t, e) = (place_after k j l i, (t, λ Q F. ap (λ Rs. against l i (Rs ++ Q M) M) r ∙ e (T ++ Q M)))

@@ -1,10 +1,9 @@
 -- Whole checks, and walks along own lists. Assumes nothing.
-use Rattle.std.proofs.Common.{◌≡◌, ℕ, zero, suc, ◌+◌, ◌-◌, ◌<◌, ◌≤◌, cond, ltb, leb, List, [], ◌++◌, append-nil, length, get_or, add-one, sym, refl, ap, ◌∙◌, subst, ⊎_elim, Option, Some, None, Ok, Err, arith}
+use Rattle.std.proofs.Common.{◌≡◌, ℕ, zero, suc, ◌+◌, ◌-◌, ◌<◌, ◌≤◌, ltb, leb, List, [], ◌++◌, append-nil, length, get_or, add-one, sym, refl, ap, ◌∙◌, subst, ⊎_elim, Option, Ok, Err, arith}
 use Rattle.std.proofs.lemmas.Bool.{cond-true, cond-false, lt-ltb}
 use Rattle.std.proofs.lemmas.Bool.Decides.{nat_tests}
 use Rattle.network.specs.Lists.{In}
-use Rattle.network.specs.Clauses.{last}
-use Rattle.rules.specs.Store.{Ref, Meaning, from, up_to, count, live_clauses, index_on, index_off}
+use Rattle.rules.specs.Store.{Meaning, from, up_to, count, live_clauses, index_on, index_off}
 use Rattle.rules.specs.Work.{Work, storing, literals_of, each}
 use Rattle.rules.proofs.Lawful.{own_few}
 use Rattle.rules.proofs.Passes.{counts_small}
@@ -16,7 +15,7 @@ use Rattle.image.specs.declared.fault.Fault.{Fault}
 use Rattle.rules.proofs.Places.{in_at}
 use Rattle.rules.proofs.Formed.{formed_parts, front_below}
 use Rattle.rules.proofs.TakenOut.{front_or_last}
-use Rattle.subsumption_pass.specs.Checks.{against, Follows, Stands, Next}
+use Rattle.subsumption_pass.specs.Checks.{against, Next}
 use Rattle.subsumption_pass.specs.Candidates.{Reaches, Ends, Checked}
 use Rattle.subsumption_pass.proofs.Refs.{none_follow}
 

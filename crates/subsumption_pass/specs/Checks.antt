@@ -1,5 +1,5 @@
 -- The check of one clause against others, as the code goes over them. Assumes nothing.
-use Rattle.std.specs.Prelude.{◌≡◌, ℕ, ◌*◌, ◌<◌, ◌≤◌, not, List, ◌∷◌, ◌++◌, map, length, filter, Some, None, Option, slice_index}
+use Rattle.std.specs.Prelude.{◌≡◌, ℕ, ◌*◌, ◌<◌, ◌≤◌, not, List, ◌∷◌, map, length, filter, Some, None, Option, slice_index}
 use Rattle.rules.specs.Store.{Ref, live, Meaning, is_dead, after_retired, retired}
 use Rattle.rules.specs.Subsume.{place_after, checked_from, around_size}
 use Rattle.subsumption_pass.specs.declared.meetings.Met.{Met}

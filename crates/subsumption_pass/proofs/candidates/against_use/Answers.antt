@@ -1,4 +1,4 @@
-use Rattle.std.proofs.Common.{ℕ, ◌≡◌, ◌+◌, drop, refl, ⊎_elim, Option, sym, ap, ◌∙◌}
+use Rattle.std.proofs.Common.{◌≡◌, ◌+◌, drop, refl, ⊎_elim, Option}
 use Rattle.rules.specs.Store.{Meaning}
 use Rattle.subsumption_pass.specs.declared.meetings.Met.TheVariants.{Lost}
 use Rattle.subsumption_pass.proofs.Refs.{uses_follow}

@@ -1,9 +1,8 @@
-use Rattle.std.proofs.Common.{rules, ℕ, ◌≡◌, ◌+◌, ◌<◌, List, [], drop, refl, sym, ap, ◌∙◌, subst, arith, Err}
+use Rattle.std.proofs.Common.{rules, ◌≡◌, ◌+◌, [], drop, refl, sym, subst, arith, Err}
 use Rattle.std.proofs.Math.ListN.{drop_of_length-le}
 use Rattle.rules.specs.Store.{Meaning, count}
 use Rattle.rules.proofs.Passes.{counts_small}
-use Rattle.subsumption_pass.specs.Checks.{Stands, IsLive}
-use Rattle.subsumption_pass.specs.Candidates.{Goes, Ends, Reaches}
+use Rattle.subsumption_pass.specs.Candidates.{Goes}
 use Rattle.subsumption_pass.proofs.Steps.{stays_put, reaches_on, reaches_end}
 use Rattle.subsumption_pass.proofs.candidates.against_uses.Goals as goal
 

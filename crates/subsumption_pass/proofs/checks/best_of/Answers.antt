@@ -21,16 +21,16 @@ loop-word-preserved c =
     let q : f b ≡ get_or c.args.around.now c.var-in-loop-word.result.number 0 = ap (λ n. get_or c.args.around.now n 0) (sym c.var-in-loop-word.ensures) in
     elim c.if-around-var.branch [
       | then-around-var w ↦ record {
-          within = subst (λ (y : Lit). node y.word < length c.args.around.now) (sym w.best-is)
-              (subst (λ y. node y < length c.args.around.now) (sym c.from-x.ensures) (c.requires _ (rest_in c.args.clause.now i c.loop-word-test.true)));
-          least = c.loop-word.invariant.least ∙ least_fewer f b x i rest c.loop-word-test.true c.from-x.ensures (omega (arith, p, q, w.if-around-var.true))
-              ∙ ap (λ (y : Lit). least f y.word (drop (i + 1) rest)) (sym w.best-is);
-        }
+        within = subst (λ (y : Lit). node y.word < length c.args.around.now) (sym w.best-is)
+            (subst (λ y. node y < length c.args.around.now) (sym c.from-x.ensures) (c.requires _ (rest_in c.args.clause.now i c.loop-word-test.true)));
+        least = c.loop-word.invariant.least ∙ least_fewer f b x i rest c.loop-word-test.true c.from-x.ensures (omega (arith, p, q, w.if-around-var.true))
+            ∙ ap (λ (y : Lit). least f y.word (drop (i + 1) rest)) (sym w.best-is);
+      }
       | else-around-var w ↦ record {
-          within = subst (λ (y : Lit). node y.word < length c.args.around.now) (sym w.best-is) c.loop-word.invariant.within;
-          least = c.loop-word.invariant.least ∙ least_stays f b x i rest c.loop-word-test.true c.from-x.ensures (omega (arith, p, q, w.if-around-var.false))
-              ∙ ap (λ (y : Lit). least f y.word (drop (i + 1) rest)) (sym w.best-is);
-        }
+        within = subst (λ (y : Lit). node y.word < length c.args.around.now) (sym w.best-is) c.loop-word.invariant.within;
+        least = c.loop-word.invariant.least ∙ least_stays f b x i rest c.loop-word-test.true c.from-x.ensures (omega (arith, p, q, w.if-around-var.false))
+            ∙ ap (λ (y : Lit). least f y.word (drop (i + 1) rest)) (sym w.best-is);
+      }
     ]
 
 pub returns : goal.returns

@@ -1,4 +1,4 @@
-use Rattle.std.proofs.Common.{◌≡◌, ℕ, ◌<◌, length, drop, get_or}
+use Rattle.std.proofs.Common.{◌≡◌, ◌<◌, length, drop, get_or}
 use Rattle.network.specs.Assignments.{node}
 use Rattle.rules.specs.Bve.{least}
 use Rattle.subsumption_pass.proofs.checks.best_of.Given as goal

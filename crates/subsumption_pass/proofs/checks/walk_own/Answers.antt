@@ -1,4 +1,4 @@
-use Rattle.std.proofs.Common.{◌≡◌, ◌+◌, ◌-◌, ◌<◌, length, sym, refl, ap, ◌∙◌, arith}
+use Rattle.std.proofs.Common.{◌-◌, ◌<◌, length, sym, ap, ◌∙◌, arith}
 use Rattle.rules.specs.Subsume.{walked}
 use Rattle.subsumption_pass.proofs.Steps.{next_found}
 use Rattle.subsumption_pass.proofs.Whole.{walk_ends, walk_done, walk_step}

@@ -1,4 +1,4 @@
-use Rattle.std.proofs.Common.{below_more, length, ◌≡◌, ℕ, ◌+◌, ◌*◌, ◌<◌, get_or, set, sym, ◌∙◌, arith}
+use Rattle.std.proofs.Common.{below_more, length, ◌≡◌, ◌+◌, ◌*◌, ◌<◌, get_or, set, sym, ◌∙◌, arith}
 use Rattle.std.proofs.lemmas.List.{get_or-set_other, get_or-set_same}
 use Rattle.rules.specs.Subsume.{around_size}
 use Rattle.subsumption_pass.proofs.Shapes.{around_both}
