@@ -9,6 +9,7 @@ use Rattle.network.specs.Clauses.{last}
 use Rattle.rules.specs.Store.{Meaning, allowed, droppable, after_retired, retired, shortened, shorten}
 use Rattle.rules.specs.Subsume.{around_size}
 use Rattle.rules.specs.Lawful.{Lawful}
+use Rattle.rules.proofs.Lawful.{own_small}
 use Rattle.rules.proofs.Places.{in_at, retired_own, retired_apart, shortened_length}
 use Rattle.subsumption_pass.specs.Checks.{SameShape, Surrounds}
 
@@ -56,17 +57,18 @@ surrounds_shape M N ws s S = record {
   sizes = λ n h. S.sizes n h ∙ omega (arith, around_both M n, around_both N n, ap length (s.uses (2 * n)), ap length (s.uses (2 * n + 1)), s.lengths (2 * n), s.lengths (2 * n + 1));
 }
 
--- a clause is around the node of its last literal
-pub owner_at : (M : Meaning) → Lawful M → (l i : ℕ) → i < length (M.own l) → (C : List ℕ) → C ≡ get_or (M.own l) i [] → (x : ℕ) → x ≡ last C → (n : ℕ) → n ≡ node x → n ≡ node l
-owner_at M L l i h C e x p n q = q ∙ ap node (p ∙ ap last e ∙ L.placed l (get_or (M.own l) i []) (in_at (M.own l) i [] h))
+-- a clause is around the node of its last literal, and that node's word counts it
+module _ (M : Meaning) (L : Lawful M) (ws : List ℕ) (S : Surrounds M ws) (l i : ℕ) (h : i < length (M.own l)) (C : List ℕ) (c : C ≡ get_or (M.own l) i []) (x : ℕ) (q : x ≡ last C) (n : ℕ) (p : n ≡ node x) where
+  owner_is : n ≡ node l
+  owner_is = p ∙ ap node (q ∙ ap last c ∙ L.placed l (get_or (M.own l) i []) (in_at (M.own l) i [] h))
 
-module _ (M : Meaning) (ws : List ℕ) (S : Surrounds M ws) (l i n : ℕ) (h : i < length (M.own l)) (b : l < 2048) (e : n ≡ node l) where
   pub owner_word : n < length ws
-  owner_word = omega (arith, S.long)
+  owner_word = let b = own_small M L l i h in omega (arith, S.long, owner_is)
 
   -- one of the node's own lists is a clause shorter, and no other node's
   one_of_two : (m : ℕ) → cond (eqb (2 * m) l) 1 0 + cond (eqb (2 * m + 1) l) 1 0 ≡ cond (eqb m n) 1 0
-  one_of_two m = ⊎_elim (λ q. ⊎_elim (λ p. grind (arith, nat_tests)) (λ p. let r : 2 * m + 1 ≡ l = omega arith in grind (arith, nat_tests)) (cases_eq (2 * m) l))
+  one_of_two m = let e = owner_is in
+      ⊎_elim (λ q. ⊎_elim (λ p. grind (arith, nat_tests)) (λ p. let r : 2 * m + 1 ≡ l = omega arith in grind (arith, nat_tests)) (cases_eq (2 * m) l))
       (λ d. let p : 2 * m ≡ l → ⊥ = λ w. d (omega arith) in let r : 2 * m + 1 ≡ l → ⊥ = λ w. d (omega arith) in grind (arith, nat_tests)) (cases_eq m n)
 
   around_less : (m : ℕ) → around_size (retired l i M) (2 * m) + cond (eqb m n) 1 0 ≡ around_size M (2 * m)
@@ -89,14 +91,17 @@ module _ (M : Meaning) (ws : List ℕ) (S : Surrounds M ws) (l i n : ℕ) (h : i
   around_same : (m : ℕ) → (m ≡ n → ⊥) → around_size (retired l i M) (2 * m) ≡ around_size M (2 * m)
   around_same m d = grind (arith, nat_tests, around_less m)
 
+  small : n < 1024
+  small = let b = own_small M L l i h in omega (arith, owner_is)
+
   pub some_around : 1 ≤ get_or ws n 0
-  some_around = omega (arith, around_one, S.sizes n (omega arith))
+  some_around = omega (arith, around_one, S.sizes n small)
 
   -- the node's word counts one less
   pub surrounds_retired : (N : Meaning) → N ≡ retired l i M → Surrounds N (set ws n (get_or ws n 0 - 1))
   surrounds_retired N r = subst (λ N. Surrounds N (set ws n (get_or ws n 0 - 1))) (sym r) (record {
     long = omega (arith, length-set ws n (get_or ws n 0 - 1), S.long);
     sizes = λ m b. ⊎_elim (λ q. subst (λ m. get_or (set ws n (get_or ws n 0 - 1)) m 0 ≡ around_size (retired l i M) (2 * m)) (sym q)
-        (get_or-set_same ws n (get_or ws n 0 - 1) 0 owner_word ∙ omega (arith, around_one, S.sizes n (omega arith))))
+        (get_or-set_same ws n (get_or ws n 0 - 1) 0 owner_word ∙ omega (arith, around_one, S.sizes n small)))
         (λ d. get_or-set_other ws n m (get_or ws n 0 - 1) 0 d ∙ S.sizes m b ∙ sym (around_same m d)) (cases_eq m n);
   })
