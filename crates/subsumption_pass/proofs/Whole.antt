@@ -1,5 +1,5 @@
 -- Whole checks, and walks along own lists. Assumes nothing.
-use Rattle.std.proofs.Common.{◌≡◌, ℕ, zero, suc, ◌+◌, ◌-◌, ◌<◌, ◌≤◌, ltb, leb, List, [], ◌++◌, append-nil, length, get_or, add-one, sym, refl, ap, ◌∙◌, subst, ⊎_elim, Option, Ok, Err, arith}
+use Rattle.std.proofs.Common.{◌≡◌, ℕ, zero, suc, ◌+◌, ◌-◌, ◌<◌, ◌≤◌, ltb, leb, List, [], ◌++◌, append-nil, length, get_or, add-one, sym, ap, ◌∙◌, subst, ⊎_elim, Option, Ok, Err, arith}
 use Rattle.std.proofs.lemmas.Bool.{cond-true, cond-false, lt-ltb}
 use Rattle.std.proofs.lemmas.Bool.Decides.{nat_tests}
 use Rattle.network.specs.Lists.{In}
@@ -44,20 +44,20 @@ module _ (l i : ℕ) (M : Meaning) (x : ℕ) (b : x ≡ best M (get_or (M.own l)
 -- ## Walks
 
 -- at the end of the own list nothing is left of a walk
-pub walk_ends : (f l i : ℕ) (M : Meaning) → length (M.own l) ≡ i → walked f l i M ≡ M
+pub walk_ends : (f l i : ℕ) (M O : Meaning) → length (M.own l) ≡ i → O ≡ walked f l i M → M ≡ O
 unfolding walked
-walk_ends zero l i M e = refl
-walk_ends (suc f) l i M e = cond-false (ltb i (length (M.own l))) (walk_on (checked l i M) (walked f l)) M (grind (arith, nat_tests))
+walk_ends zero l i M O e o = sym o
+walk_ends (suc f) l i M O e o = sym (o ∙ cond-false (ltb i (length (M.own l))) (walk_on (checked l i M) (walked f l)) M (grind (arith, nat_tests)))
 
-pub walk_done : (f l i : ℕ) (M : Meaning) → f ≡ 0 → walked f l i M ≡ M
+pub walk_done : (f l i : ℕ) (M O : Meaning) → f ≡ 0 → O ≡ walked f l i M → M ≡ O
 unfolding walked
-walk_done f l i M e = ap (λ n. walked n l i M) e
+walk_done f l i M O e o = sym (o ∙ ap (λ n. walked n l i M) e)
 
 -- one clause more of a walk
-pub walk_step : (f k l i p : ℕ) (M N : Meaning) → k < f → i < length (M.own l) → checked l i M ≡ (N, p) → walked (f - k) l i M ≡ walked (f - (k + 1)) l p N
+pub walk_step : (f k l i p : ℕ) (M N O : Meaning) → k < f → i < length (M.own l) → checked l i M ≡ (N, p) → O ≡ walked (f - k) l i M → O ≡ walked (f - (k + 1)) l p N
 unfolding walked
-walk_step f k l i p M N h li e =
-    ap (λ n. walked n l i M) (let q : f - k ≡ suc (f - (k + 1)) = omega arith in q)
+walk_step f k l i p M N O h li e o = o
+    ∙ ap (λ n. walked n l i M) (let q : f - k ≡ suc (f - (k + 1)) = omega arith in q)
     ∙ cond-true (ltb i (length (M.own l))) (walk_on (checked l i M) (walked (f - (k + 1)) l)) M (lt-ltb i (length (M.own l)) li)
     ∙ ap (λ r. walk_on r (walked (f - (k + 1)) l)) e
 

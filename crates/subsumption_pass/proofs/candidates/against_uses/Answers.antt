@@ -1,26 +1,10 @@
-use Rattle.std.proofs.Common.{rules, ◌≡◌, ◌+◌, [], drop, refl, sym, subst, arith, Err}
+use Rattle.std.proofs.Common.{rules, ◌≡◌, ◌+◌, [], drop, sym, subst, arith, Err}
 use Rattle.std.proofs.Math.ListN.{drop_of_length-le}
 use Rattle.rules.specs.Store.{Meaning, count}
 use Rattle.rules.proofs.Passes.{counts_small}
 use Rattle.subsumption_pass.specs.Candidates.{Goes}
 use Rattle.subsumption_pass.proofs.Steps.{stays_put, reaches_on, reaches_end}
 use Rattle.subsumption_pass.proofs.candidates.against_uses.Goals as goal
-
-pub loop-at-init : goal.loop-at-init
-loop-at-init g c = record {
-  around = c.requires.around;
-  stands = c.first_use-at.ensures;
-  reaches = λ l i a. stays_put (g.S.Lists.at c.args.s.now) c.args.one l i (λ (M : Meaning). M.uses c.args.x) (λ (M : Meaning). drop 0 (M.uses c.args.x)) (g.S.Lists.meaning c.args.s.now) a refl;
-}
-
-pub against_use-requires-clause-live : goal.against_use-requires-clause-live
-against_use-requires-clause-live g c = let (l, p) = c.requires.live in let (i, a) = p in let (i₁, q) = c.loop-at.invariant.reaches l i a in (l, (i₁, q.0))
-
-pub against_use-requires-clause-usage : goal.against_use-requires-clause-usage
-against_use-requires-clause-usage g c = let p = rw c.in-Some.is at c.loop-at.invariant.stands in (c.args.x, (c.loop-at.place, p))
-
-pub against_use-requires-clause-around : goal.against_use-requires-clause-around
-against_use-requires-clause-around g c = c.loop-at.invariant.around
 
 pub returns-in_err-against_use-clause-goes : goal.returns-in_err-against_use-clause-goes
 returns-in_err-against_use-clause-goes g c l i a =
@@ -65,6 +49,3 @@ returns-clause-goes g c l i a =
     (c.loop-at.invariant.reaches l i a)
     (λ i₁ b. stays_put (g.S.Lists.at c.loop-at.s) c.args.one l i₁ (λ (M : Meaning). drop c.loop-at.place (M.uses c.args.x)) (λ (M : Meaning). []) (g.S.Lists.meaning c.loop-at.s) b
     (drop_of_length-le ((g.S.Lists.meaning c.loop-at.s).uses c.args.x) (omega (arith, q))))
-
-pub returns-clause-around : goal.returns-clause-around
-returns-clause-around g c = c.loop-at.invariant.around

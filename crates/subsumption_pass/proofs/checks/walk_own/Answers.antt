@@ -1,5 +1,5 @@
-use Rattle.std.proofs.Common.{◌-◌, ◌<◌, length, sym, ap, ◌∙◌, arith}
-use Rattle.rules.specs.Subsume.{walked}
+use Rattle.std.proofs.Common.{◌-◌, ◌<◌, length, ap, arith}
+use Rattle.rules.specs.Subsume.{walk, walked}
 use Rattle.subsumption_pass.proofs.Steps.{next_found}
 use Rattle.subsumption_pass.proofs.Whole.{walk_ends, walk_done, walk_step}
 use Rattle.subsumption_pass.proofs.checks.walk_own.Goals as goal
@@ -20,16 +20,18 @@ loop-k-preserved g c =
     let k : c.loop-k._k < length ((g.S.Lists.meaning c.args.s.now).own c.args.l) = (let e = c.own_len-k-end.ensures in omega (arith, e, c.loop-k-test.true)) in
     record {
       around = c.check-at.ensures.around;
-      walks = (p, (r.0, q.1 ∙ walk_step (length ((g.S.Lists.meaning c.args.s.now).own c.args.l)) c.loop-k._k c.args.l i p (g.S.Lists.meaning c.loop-k.s) (g.S.Lists.meaning c.check-at.new.s) k s.1 r.1));
+      walks = (p, (r.0, walk_step (length ((g.S.Lists.meaning c.args.s.now).own c.args.l)) c.loop-k._k c.args.l i p (g.S.Lists.meaning c.loop-k.s) (g.S.Lists.meaning c.check-at.new.s) (walked (length ((g.S.Lists.meaning c.args.s.now).own c.args.l)) c.args.l 0 (g.S.Lists.meaning c.args.s.now)) k s.1 r.1 q.1));
     }
 
 pub returns-after-loop-k-clause-walks : goal.returns-after-loop-k-clause-walks
 returns-after-loop-k-clause-walks g c =
     let (i, q) = c.loop-k.invariant.walks in
-    sym (q.1 ∙ walk_done (length ((g.S.Lists.meaning c.args.s.now).own c.args.l) - c.loop-k._k) c.args.l i (g.S.Lists.meaning c.loop-k.s) (let e = c.own_len-k-end.ensures in omega (arith, e, c.loop-k-test.false)))
+    let e = c.own_len-k-end.ensures in
+    walk_done (length ((g.S.Lists.meaning c.args.s.now).own c.args.l) - c.loop-k._k) c.args.l i (g.S.Lists.meaning c.loop-k.s) (walk c.args.l (g.S.Lists.meaning c.args.s.now))
+    (omega (arith, e, c.loop-k-test.false)) q.1
 
 pub returns-in_default-clause-walks : goal.returns-in_default-clause-walks
 returns-in_default-clause-walks g c =
     let (i, q) = c.loop-k.invariant.walks in
     let s = rw c.in_default.is at q.0 in
-    sym (q.1 ∙ walk_ends (length ((g.S.Lists.meaning c.args.s.now).own c.args.l) - c.loop-k._k) c.args.l i (g.S.Lists.meaning c.loop-k.s) s)
+    walk_ends (length ((g.S.Lists.meaning c.args.s.now).own c.args.l) - c.loop-k._k) c.args.l i (g.S.Lists.meaning c.loop-k.s) (walk c.args.l (g.S.Lists.meaning c.args.s.now)) s q.1

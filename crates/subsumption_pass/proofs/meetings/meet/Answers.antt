@@ -1,6 +1,6 @@
 use Rattle.std.proofs.Common.{map, ◌≡◌, ◌∙◌, sym, ap, refl, ⊎_elim}
 use Rattle.rules.specs.Store.{after_retired, retire}
-use Rattle.rules.specs.Subsume.{Verdict, place_after, apart, subsumed, merged, both_lost, long_lost, strengthened, verdict}
+use Rattle.rules.specs.Subsume.{Verdict, place_after, apart, subsumed, merged, both_lost, long_lost, strengthened}
 use Rattle.subsumption_pass.specs.Verdicts.{told}
 use Rattle.subsumption_pass.specs.Checks.{against}
 use Rattle.subsumption_pass.proofs.Shapes.{no_change, surrounds_shape}
