@@ -42,7 +42,7 @@ abbrev Held : List ℕ → ℕ → List (List ℕ) → Type 0
 Held C p xs = (p < length xs) × (get_or xs p [] ≡ C)
 
 -- the place of a clause once another is retired
-pub retire_place : (M : Meaning) (k j l i : ℕ) → j < length (M.own k) → i < length (M.own l) → ((k ≡ l) → (j ≡ i) → ⊥)
+retire_place : (M : Meaning) (k j l i : ℕ) → j < length (M.own k) → i < length (M.own l) → ((k ≡ l) → (j ≡ i) → ⊥)
     → (place_after k j l i < length ((retired k j M).own l)) × (get_or ((retired k j M).own l) (place_after k j l i) [] ≡ get_or (M.own l) i [])
 retire_place M k j l i lj li a = ⊎_elim same other (cases_eq k l)
   where

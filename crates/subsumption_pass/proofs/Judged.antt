@@ -6,10 +6,9 @@ use Rattle.std.proofs.lemmas.List.{length-map}
 use Rattle.rules.specs.Store.{Ref, live, Meaning, allowed, droppable, after_retired, retired, shortened, retire, shorten}
 use Rattle.rules.specs.Subsume.{Verdict, both_lost, verdict, place_after, on_verdict, checked_from}
 use Rattle.rules.proofs.Answers.{retire_yes}
-use Rattle.rules.proofs.Subsume.{retire_place}
 use Rattle.subsumption_pass.specs.Checks.{against, SameShape, Stands}
 use Rattle.subsumption_pass.proofs.Refs.{verdict_alike}
-use Rattle.subsumption_pass.proofs.Shapes.{shortened_shape, retired_shape}
+use Rattle.subsumption_pass.proofs.Shapes.{shortened_shape, retired_shape, place_there}
 
 -- ## Shortening
 
@@ -61,7 +60,7 @@ module _ (M M₁ N : Meaning) (l i k j : ℕ) (li : i < length (M.own l)) (lj : 
   pub follows_on : {H : Type 0} (at at₁ : H → ℕ → ℕ → Type 0) (one : H) → at one l i → ((h : H) (m n : ℕ) → at h m n → ((m ≡ k) × (n ≡ j) → ⊥) → at₁ h m (place_after k j m n)) → Stands at₁ N one l (place_after k j l i)
   follows_on at at₁ one a f = (
     f one l i a (λ (p, q). apart_places (sym p) (sym q)),
-    subst (λ (a : Meaning). place_after k j l i < length (a.own l)) (sym r) (retire_place M₁ k j l i (omega (arith, s.lengths k)) (omega (arith, s.lengths l)) apart_places).0,
+    subst (λ (a : Meaning). place_after k j l i < length (a.own l)) (sym r) (place_there M₁ k j l i (omega (arith, s.lengths k)) (omega (arith, s.lengths l)) apart_places),
   )
 
   pub gone_shape : SameShape (retired k j M) N

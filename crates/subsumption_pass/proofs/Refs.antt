@@ -4,10 +4,10 @@ use Rattle.std.proofs.lemmas.Bool.{cases_eq}
 use Rattle.std.proofs.lemmas.Bool.Decides.{nat_tests}
 use Rattle.std.proofs.lemmas.List.{length-map, drop-map, map-append}
 use Rattle.std.proofs.lemmas.List.Elements.{filter-append}
-use Rattle.std.proofs.lemmas.List.Edits.{length-remove}
 use Rattle.rules.specs.Store.{Ref, live, dead, Meaning, is_dead, from, clause_at, after_retired, retired}
 use Rattle.rules.specs.Subsume.{Verdict, apart, subsumed, merged, both_lost, long_lost, strengthened, verdict, on_verdict, checked_from, refs_of}
-use Rattle.rules.proofs.Places.{retired_own, retired_apart}
+use Rattle.rules.proofs.Places.{retired_apart}
+use Rattle.subsumption_pass.proofs.Shapes.{less}
 use Rattle.subsumption_pass.specs.Checks.{alive, against, SameShape, Follows}
 
 -- ## Dead refs are passed over
@@ -112,7 +112,7 @@ module _ (k j : ℕ) where
 -- ## Refs that follow
 
 less_length : (k j : ℕ) (M : Meaning) → j < length (M.own k) → suc (length ((retired k j M).own k)) ≡ length (M.own k)
-less_length k j M h = omega (arith, ap length (retired_own M k j), length-remove (M.own k) j h)
+less_length k j M h = grind (arith, nat_tests, less M k j k h)
 
 pub own_follows : (x : ℕ) → Follows (λ M. refs_of M x)
 own_follows x = record {

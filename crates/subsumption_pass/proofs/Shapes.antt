@@ -7,7 +7,7 @@ use Rattle.std.proofs.lemmas.List.Edits.{length-remove}
 use Rattle.network.specs.Assignments.{node, opposite}
 use Rattle.network.specs.Clauses.{last}
 use Rattle.rules.specs.Store.{Meaning, allowed, droppable, after_retired, retired, shortened, shorten}
-use Rattle.rules.specs.Subsume.{around_size}
+use Rattle.rules.specs.Subsume.{place_after, around_size}
 use Rattle.rules.specs.Lawful.{Lawful}
 use Rattle.rules.proofs.Lawful.{own_small}
 use Rattle.rules.proofs.Places.{in_at, retired_own, retired_apart, shortened_length}
@@ -31,6 +31,10 @@ shortened_shape M l i x = by (droppable M l i x)
 -- a clause less
 pub less : (M : Meaning) (l i k : ℕ) → i < length (M.own l) → length ((retired l i M).own k) + cond (eqb k l) 1 0 ≡ length (M.own k)
 less M l i k h = grind (arith, nat_tests, ap length (retired_own M l i), length-remove (M.own l) i h, retired_apart M l i k, cases_eq k l)
+
+-- where another clause stands then, there is a place
+pub place_there : (M : Meaning) (k j l i : ℕ) → j < length (M.own k) → i < length (M.own l) → ((k ≡ l) → (j ≡ i) → ⊥) → place_after k j l i < length ((retired k j M).own l)
+place_there M k j l i lj li a = ⊎_elim (λ e. let h : j < length (M.own l) = subst (λ g. j < length (M.own g)) e lj in grind (arith, nat_tests, less M k j l lj, a)) (λ d. grind (arith, nat_tests, less M k j l lj)) (cases_eq k l)
 
 pub retired_uses : (M : Meaning) (l i x : ℕ) → (retired l i M).uses x ≡ map (after_retired l i) (M.uses x)
 unfolding retired

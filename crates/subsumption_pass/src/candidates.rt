@@ -76,6 +76,7 @@ fn against_own<S: Store>(
 {
     let mut at = s.first(x);
     let mut place = 0u32;
+    // As with uses: the place shows that the loop ends.
     while let Some(other) = at {
         match meet(s, around, one, other) {
             Met::Stays => {

@@ -50,6 +50,7 @@ pub(crate) fn walk_own<S: Store>(s: &mut S, around: &mut [u32], l: u32)
     ensures around { Surrounds (S.meaning s.new) around.new }
 {
     let mut at = s.first(l);
+    // No clause is entered, so there are no more to look at than the list has now.
     for _k in 0..s.own_len(l) {
         let Some(one) = at else {
             break;

@@ -1,7 +1,7 @@
 use Rattle.std.proofs.Common.{◌+◌, arith}
 use Rattle.rules.specs.Store.{Meaning}
 use Rattle.rules.specs.Subsume.{refs_of}
-use Rattle.rules.proofs.Lawful.{own_few}
+use Rattle.subsumption_pass.proofs.Whole.{sizes_few}
 use Rattle.subsumption_pass.proofs.Refs.{refs_from, refs_after, one_more, after_stays, after_gone, fewer_left}
 use Rattle.subsumption_pass.proofs.Steps.{next_found, past_stays, past_gone, ends_lost, reaches_on, reaches_end}
 use Rattle.subsumption_pass.proofs.candidates.against_own.Goals as goal
@@ -9,9 +9,8 @@ use Rattle.subsumption_pass.proofs.candidates.against_own.Goals as goal
 pub overflow_add-place : goal.overflow_add-place
 overflow_add-place g c =
     let p = rw c.in-Some.is at c.loop-at.invariant.stands in
-    let s = own_few (g.S.Lists.meaning c.loop-at.s) (g.met.S.Lists.lawful c.loop-at.s) c.args.x in
-    let m = g.met.S.Lists.small c.loop-at.s in
-    omega (arith, p.1, s, m)
+    let f = sizes_few (g.S.Lists.meaning c.loop-at.s) (g.met.S.Lists.lawful c.loop-at.s) (g.met.S.Lists.small c.loop-at.s) c.args.x in
+    omega (arith, p.1, f.1)
 
 pub loop-at-preserved-in-Stays : goal.loop-at-preserved-in-Stays
 loop-at-preserved-in-Stays g c =

@@ -1,7 +1,7 @@
 use Rattle.std.proofs.Common.{rules, ◌≡◌, ◌+◌, [], drop, sym, subst, arith, Err}
 use Rattle.std.proofs.Math.ListN.{drop_of_length-le}
 use Rattle.rules.specs.Store.{Meaning, count}
-use Rattle.rules.proofs.Passes.{counts_small}
+use Rattle.subsumption_pass.proofs.Whole.{sizes_few}
 use Rattle.subsumption_pass.specs.Candidates.{Goes}
 use Rattle.subsumption_pass.proofs.Steps.{stays_put, reaches_on, reaches_end}
 use Rattle.subsumption_pass.proofs.candidates.against_uses.Goals as goal
@@ -18,11 +18,8 @@ returns-in_err-against_use-clause-goes g c l i a =
 pub overflow_add-place : goal.overflow_add-place
 overflow_add-place g c =
     let p = rw c.in-Some.is at c.loop-at.invariant.stands in
-    let M = g.S.Lists.meaning c.loop-at.s in
-    let s = counts_small M (g.met.S.Lists.lawful c.loop-at.s) c.args.x in
-    let w = (g.met.S.Lists.lawful c.loop-at.s).within in
-    let m = g.met.S.Lists.small c.loop-at.s in
-    omega (arith, p.1, s, w, m)
+    let f = sizes_few (g.S.Lists.meaning c.loop-at.s) (g.met.S.Lists.lawful c.loop-at.s) (g.met.S.Lists.small c.loop-at.s) c.args.x in
+    omega (arith, p.1, f.0)
 
 pub loop-at-smaller : goal.loop-at-smaller
 loop-at-smaller g c =
