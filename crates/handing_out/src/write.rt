@@ -1,0 +1,77 @@
+// How the image is written.
+ghost use Rattle.handing_out.specs.Writing.{Wrote};
+ghost use Rattle.image.specs.Runs.{written};
+ghost use Rattle.rules.specs.Calls.{count_out, handed_out, words_out};
+ghost use Rattle.simplifier.specs.Shown.{work_of};
+ghost use Rattle.std.specs.Prelude.{◌≡◌, ◌+◌, ◌<◌, ◌≤◌, [], ◌∷◌, ◌++◌, length, drop};
+
+use crate::measure::only_literal;
+use simplifier::state::Simplifier;
+use store::lists::Lists;
+
+// Lent words, written one part after another: the next goes to the place `at`.
+#[derive(Drop)]
+struct Writer<'o> {
+    words: &'o mut [u32],
+    at: usize,
+}
+
+impl Writer<'_> {
+    // Writes a clause: its length, and then its literals.
+    fn write_clause(&mut self, clause: &[u32])
+        requires room { self.old.at + length (length clause.now ∷ clause.now) ≤ length self.old.words.now }
+        requires short { length clause.now ≤ 32 }
+        ensures { Wrote (length clause.now ∷ clause.now) self.old self.new }
+    {
+        let from = self.at + 1;
+        let end = from + clause.len();
+        self.words[self.at] = clause.len() as u32;
+        self.words[from..end].copy_from_slice(clause);
+        self.at = end;
+    }
+
+    // Writes the clauses of an own list.
+    fn write_list<S: Lists>(&mut self, store: &S, l: u32)
+        requires { self.old.at + length (written ((S.meaning store.now).own l)) ≤ length self.old.words.now }
+        ensures { Wrote (written ((S.meaning store.now).own l)) self.old self.new }
+    {
+        let mut at = store.first(l);
+        while let Some(h) = at {
+            self.write_clause(store.clause(h));
+            at = store.next(h);
+        }
+    }
+
+    // Writes what is handed out of a node: the clauses with its positive literal first.
+    fn write_node<S: Lists>(&mut self, s: &Simplifier<S>, node: u32)
+        requires node { node ≤ s.now.top }
+        requires room { self.old.at + length (written (handed_out (work_of S.meaning s.now []) node)) ≤ length self.old.words.now }
+        ensures { Wrote (written (handed_out (work_of S.meaning s.now []) node)) self.old self.new }
+    {
+        if let Some(literal) = only_literal(s, node) {
+            self.write_clause(&[literal.word]);
+            return;
+        }
+        self.write_list(&s.store, 2 * node);
+        self.write_list(&s.store, 2 * node + 1);
+    }
+}
+
+// Writes the image, in which so many clauses are counted.
+pub(crate) fn write_image<S: Lists>(s: &Simplifier<S>, clauses: u32, out: &mut [u32])
+    requires counted { clauses ≡ count_out (work_of S.meaning s.now []) }
+    requires room { length (words_out (work_of S.meaning s.now [])) ≤ length out.old }
+    ensures { out.new ≡ words_out (work_of S.meaning s.now []) ++ drop (length (words_out (work_of S.meaning s.now []))) out.old }
+{
+    out[0] = s.top;
+    out[1] = clauses;
+    out[2] = s.top + 3;
+    let mut writer = Writer {
+        words: out,
+        at: s.top as usize + 3,
+    };
+    for node in 1..=s.top {
+        writer.write_node(s, node);
+        writer.words[node as usize + 2] = writer.at as u32;
+    }
+}
