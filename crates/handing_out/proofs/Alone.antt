@@ -1,9 +1,11 @@
 -- A node that is handed out as its value's clause alone. Assumes nothing.
-use Rattle.std.proofs.Common.{◌≡◌, ℕ, ◌+◌, ◌-◌, ◌*◌, ◌/◌, ◌%◌, Bool, true, false, cond, List, [], ◌∷◌, Some, None, Option, sym, refl, ap, ◌∙◌, arith}
+use Rattle.std.proofs.Common.{◌≡◌, ℕ, ◌+◌, ◌-◌, ◌*◌, ◌/◌, ◌%◌, Bool, true, false, cond, List, [], ◌∷◌, Some, None, Option, sym, refl, ap, ◌∙◌, ◌++◌, arith}
 use Rattle.std.proofs.lemmas.Bool.Decides.{nat_tests}
 use Rattle.network.specs.Assignments.{opposite}
 use Rattle.network.specs.Values.{Values, flipped, sign, literal, unit_of}
-use Rattle.rules.specs.Calls.{only_unit}
+use Rattle.clause.specs.declared.literals.Lit.{Lit}
+use Rattle.rules.specs.Work.{Work, own_of}
+use Rattle.rules.specs.Calls.{only_unit, handed_out}
 
 even : (n : ℕ) → sign (2 * n) ≡ true
 even n = grind (arith, nat_tests)
@@ -39,3 +41,8 @@ unfrozen n f (Some b) e Cs = ap (λ g. cond g (unit_of n b ∷ []) Cs) e
 -- what is told of a literal, by its number
 pub known : (V : Values) (l k : ℕ) {o : Option Bool} → l ≡ k → o ≡ literal V l → literal V k ≡ o
 known V l k e h = sym (h ∙ ap (literal V) e)
+
+-- what is handed out of a node, by what becomes of any clauses that it has
+pub handed_is : (W : Work) (n : ℕ) (F : List (List ℕ) → List (List ℕ)) → ((Cs : List (List ℕ)) → only_unit n (W.frozen n) (W.values n) Cs ≡ F Cs) → handed_out W n ≡ F (own_of W (2 * n) ++ own_of W (2 * n + 1))
+unfolding handed_out
+handed_is W n F e = e (own_of W (2 * n) ++ own_of W (2 * n + 1))

@@ -1,3 +1,4 @@
 pub mod Runs
 pub mod Alone
 pub mod Places
+pub mod Images

@@ -7,6 +7,8 @@ use Rattle.rules.specs.Store.{Meaning}
 use Rattle.rules.specs.Lawful.{Lawful}
 use Rattle.rules.proofs.Formed.{formed_parts}
 use Rattle.rules.proofs.Places.{in_at}
+use Rattle.handing_out.specs.Sizes.{Measures}
+use Rattle.handing_out.specs.declared.measure.Size.{Size}
 
 -- one list of clauses after another
 pub written_append : (Cs Ds : List (List ℕ)) → written (Cs ++ Ds) ≡ written Cs ++ written Ds
@@ -38,3 +40,20 @@ own_short M L l i h = (formed_parts (get_or (M.own l) i []) (L.formed l (get_or 
 -- a clause more in the size of a list
 pub size_more : (Cs : List (List ℕ)) (i n m : ℕ) (C : List ℕ) → i < length Cs → C ≡ get_or Cs i [] → n ≡ length (written (take i Cs)) → m ≡ n + (1 + length C) → m ≡ length (written (take (i + 1) Cs))
 size_more Cs i n m C h e p q = omega (arith, longer Cs i h, ap length e)
+
+-- ## Sizes
+
+-- of equal clauses
+pub measures_same : {Cs Ds : List (List ℕ)} {n : Size} → Ds ≡ Cs → Measures Cs n → Measures Ds n
+measures_same {Cs} {Ds} {n} e m = record { words = m.words ∙ ap (λ Es. length (written Es)) (sym e); clauses = m.clauses ∙ ap length (sym e) }
+
+-- of one literal alone
+pub measures_one : (l : ℕ) → Measures ((l ∷ []) ∷ []) (record { words = 2; clauses = 1 })
+measures_one l = record { words = unfold written in refl; clauses = refl }
+
+-- of one list after another
+pub measures_both : (Cs Ds : List (List ℕ)) (n m : Size) → Measures Cs n → Measures Ds m → Measures (Cs ++ Ds) (record { words = n.words + m.words; clauses = n.clauses + m.clauses })
+measures_both Cs Ds n m p q = record {
+  words = omega (arith, p.words, q.words, ap length (written_append Cs Ds), length-append (written Cs) (written Ds));
+  clauses = omega (arith, p.clauses, q.clauses, length-append Cs Ds);
+}

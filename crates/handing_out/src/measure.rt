@@ -50,6 +50,7 @@ impl Size {
     fn of_list<S: Lists>(store: &S, l: u32) -> Size
         ensures measures { Measures ((S.meaning store.now).own l) result }
         ensures few { result.words ≤ 135168 }
+        ensures counted { result.clauses ≤ result.words }
     {
         let mut size = Size {
             words: 0,
@@ -69,8 +70,9 @@ impl Size {
         requires { node ≤ s.now.top }
         ensures measures { Measures (handed_out (work_of S.meaning s.now []) node) result }
         ensures few { result.words ≤ 270336 }
+        ensures counted { result.clauses ≤ result.words }
     {
-        if only_literal(s, node).is_some() {
+        if let Some(_) = only_literal(s, node) {
             return Size {
                 words: 2,
                 clauses: 1,
@@ -93,7 +95,7 @@ impl Size {
             words: s.top + 3,
             clauses: 0,
         };
-        for node in 1..=s.top {
+        for node in 1..s.top + 1 {
             let part = Size::of_node(s, node);
             size.words += part.words;
             size.clauses += part.clauses;

@@ -70,7 +70,7 @@ pub(crate) fn write_image<S: Lists>(s: &Simplifier<S>, clauses: u32, out: &mut [
         words: out,
         at: s.top as usize + 3,
     };
-    for node in 1..=s.top {
+    for node in 1..s.top + 1 {
         writer.write_node(s, node);
         writer.words[node as usize + 2] = writer.at as u32;
     }
