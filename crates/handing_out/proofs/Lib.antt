@@ -2,3 +2,5 @@ pub mod Runs
 pub mod Alone
 pub mod Places
 pub mod Images
+pub mod Laying
+pub mod Listing

@@ -17,17 +17,24 @@ struct Writer<'o> {
 }
 
 impl Writer<'_> {
+    // Writes words.
+    fn write(&mut self, words: &[u32])
+        requires { self.old.at + length words.now ≤ length self.old.words.now }
+        ensures { Wrote words.now self.old self.new }
+    {
+        let end = self.at + words.len();
+        self.words[self.at..end].copy_from_slice(words);
+        self.at = end;
+    }
+
     // Writes a clause: its length, and then its literals.
     fn write_clause(&mut self, clause: &[u32])
-        requires room { self.old.at + length (length clause.now ∷ clause.now) ≤ length self.old.words.now }
+        requires room { self.old.at + (1 + length clause.now) ≤ length self.old.words.now }
         requires short { length clause.now ≤ 32 }
         ensures { Wrote (length clause.now ∷ clause.now) self.old self.new }
     {
-        let from = self.at + 1;
-        let end = from + clause.len();
-        self.words[self.at] = clause.len() as u32;
-        self.words[from..end].copy_from_slice(clause);
-        self.at = end;
+        self.write(&[clause.len() as u32]);
+        self.write(clause);
     }
 
     // Writes the clauses of an own list.
@@ -63,15 +70,15 @@ pub(crate) fn write_image<S: Lists>(s: &Simplifier<S>, clauses: u32, out: &mut [
     requires room { length (words_out (work_of S.meaning s.now [])) ≤ length out.old }
     ensures { out.new ≡ words_out (work_of S.meaning s.now []) ++ drop (length (words_out (work_of S.meaning s.now []))) out.old }
 {
-    out[0] = s.top;
-    out[1] = clauses;
-    out[2] = s.top + 3;
-    let mut writer = Writer {
-        words: out,
-        at: s.top as usize + 3,
+    let (header, runs) = out.split_at_mut(s.top as usize + 3);
+    let mut header = Writer {
+        words: header,
+        at: 0,
     };
+    let mut runs = Writer { words: runs, at: 0 };
+    header.write(&[s.top, clauses, s.top + 3]);
     for node in 1..s.top + 1 {
-        writer.write_node(s, node);
-        writer.words[node as usize + 2] = writer.at as u32;
+        runs.write_node(s, node);
+        header.write(&[s.top + 3 + runs.at as u32]);
     }
 }
