@@ -4,3 +4,4 @@ pub mod Places
 pub mod Images
 pub mod Laying
 pub mod Listing
+pub mod Noding
