@@ -1,6 +1,6 @@
 -- Words in place of others, one part after another. Assumes nothing.
-use Rattle.std.proofs.Common.{◌≡◌, ℕ, ◌+◌, ◌≤◌, List, [], ◌∷◌, ◌++◌, length, take, drop, sym, refl, ap, ◌∙◌, append_assoc, arith}
-use Rattle.std.proofs.lemmas.List.{length-append, length-take-le, length-drop, take_at, take-append-drop, drop-drop}
+use Rattle.std.proofs.Common.{◌≡◌, ℕ, ◌+◌, ◌≤◌, List, [], ◌∷◌, ◌++◌, length, take, drop, sym, refl, ap, ◌∙◌, append-nil, append_assoc, arith}
+use Rattle.std.proofs.lemmas.List.{length-append, length-take-le, length-drop, take_at, take-append-drop, drop-drop, drop_all}
 use Rattle.std.proofs.Math.Seq.{drop-append-add}
 use borrow.Rule.Slice.PartMut.{put_mid}
 use Rattle.handing_out.specs.Writing.{laid, Wrote}
@@ -63,3 +63,13 @@ wrote_nothing w = record {
   at = omega arith;
   words = sym (ap (λ n. take w.at w.words.now ++ drop n w.words.now) (omega arith) ∙ take-append-drop w.at w.words.now);
 }
+
+-- as many words as there are places, from the first on
+pub laid_whole : (at : ℕ) (xs ws : List ℕ) → at ≡ 0 → length xs ≡ length ws → laid at xs ws ≡ xs
+unfolding laid
+laid_whole at xs ws z e = ap (λ n. take n ws ++ (xs ++ drop (n + length xs) ws)) z ∙ ap (λ ys. xs ++ ys) (drop_all (0 + length xs) ws (omega arith)) ∙ append-nil xs
+
+-- words from the first place on
+pub laid_first : (at : ℕ) (xs ws : List ℕ) → at ≡ 0 → laid at xs ws ≡ xs ++ drop (length xs) ws
+unfolding laid
+laid_first at xs ws z = ap (λ n. take n ws ++ (xs ++ drop (n + length xs) ws)) z ∙ ap (λ n. xs ++ drop n ws) (omega arith)

@@ -5,3 +5,4 @@ pub mod Images
 pub mod Laying
 pub mod Listing
 pub mod Noding
+pub mod Writing
