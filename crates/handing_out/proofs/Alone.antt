@@ -1,9 +1,8 @@
 -- A node that is handed out as its value's clause alone. Assumes nothing.
-use Rattle.std.proofs.Common.{◌≡◌, ℕ, ◌+◌, ◌-◌, ◌*◌, ◌/◌, ◌%◌, Bool, true, false, cond, List, [], ◌∷◌, Some, None, Option, sym, refl, ap, ◌∙◌, ◌++◌, arith}
+use Rattle.std.proofs.Common.{◌≡◌, ℕ, ◌+◌, ◌-◌, ◌*◌, ◌/◌, Bool, true, false, cond, List, [], ◌∷◌, Some, None, Option, sym, refl, ap, ◌∙◌, ◌++◌, arith}
 use Rattle.std.proofs.lemmas.Bool.Decides.{nat_tests}
 use Rattle.network.specs.Assignments.{opposite}
 use Rattle.network.specs.Values.{Values, flipped, sign, literal, unit_of}
-use Rattle.clause.specs.declared.literals.Lit.{Lit}
 use Rattle.rules.specs.Work.{Work, own_of}
 use Rattle.rules.specs.Calls.{only_unit, handed_out}
 

@@ -1,10 +1,10 @@
 -- The image, node by node. Assumes nothing.
-use Rattle.std.proofs.Common.{◌≡◌, ℕ, zero, suc, ◌+◌, ◌*◌, ◌≤◌, List, [], ◌∷◌, ◌++◌, map, length, sym, refl, ap, ◌∙◌, subst, append-nil, arith, flat_map}
+use Rattle.std.proofs.Common.{◌≡◌, ℕ, zero, suc, ◌+◌, ◌*◌, ◌≤◌, List, [], ◌∷◌, ◌++◌, map, length, sym, ap, ◌∙◌, append-nil, arith, flat_map}
 use Rattle.std.proofs.lemmas.List.{length-append, map-append}
 use Rattle.std.proofs.lemmas.Grind.{flat_map-append}
 use Rattle.image.specs.Runs.{written}
 use Rattle.rules.specs.Store.{from, sum_of}
-use Rattle.rules.specs.Work.{Work, nodes_of}
+use Rattle.rules.specs.Work.{Work}
 use Rattle.rules.specs.Calls.{handed_out, runs_out, count_out, words_out}
 use Rattle.rules.proofs.Const.{suc_from}
 use Rattle.rules.proofs.Words.{words_count}
@@ -45,8 +45,12 @@ module _ (W : Work) where
 
   clauses_more : (k : ℕ) → clauses (suc k) ≡ clauses k + length (handed_out W (suc k))
   clauses_more k =
-      omega (arith, ap (λ ns. sum_of (map (λ n. length (handed_out W n)) ns)) (nodes_more k), ap sum_of (map-append (λ n. length (handed_out W n)) (from 1 k) (suc k ∷ [])),
-      sum_append (map (λ n. length (handed_out W n)) (from 1 k)) (length (handed_out W (suc k)) ∷ []))
+      omega (
+        arith,
+        ap (λ ns. sum_of (map (λ n. length (handed_out W n)) ns)) (nodes_more k),
+        ap sum_of (map-append (λ n. length (handed_out W n)) (from 1 k) (suc k ∷ [])),
+        sum_append (map (λ n. length (handed_out W n)) (from 1 k)) (length (handed_out W (suc k)) ∷ []),
+      )
 
   -- the whole image
   pub runs_all : runs_out W ≡ runs W.top

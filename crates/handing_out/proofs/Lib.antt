@@ -6,3 +6,4 @@ pub mod Laying
 pub mod Listing
 pub mod Noding
 pub mod Writing
+pub mod Verdict

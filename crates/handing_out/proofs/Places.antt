@@ -1,5 +1,5 @@
 -- A walk by handles along a list: the handle stands at a place, and there is none past the end. Assumes nothing.
-use Rattle.std.proofs.Common.{◌≡◌, ℕ, ◌+◌, ◌<◌, ◌≤◌, Some, None, Option, sym, arith}
+use Rattle.std.proofs.Common.{◌≡◌, ℕ, ◌<◌, ◌≤◌, Some, None, Option, sym, arith}
 
 -- the walk is at place i of n
 abbrev pub Place : {H : Type 0} → (H → ℕ → Type 0) → ℕ → Option H → ℕ → Type 0

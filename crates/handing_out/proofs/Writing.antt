@@ -5,10 +5,10 @@ use Rattle.image.specs.Runs.{written}
 use Rattle.rules.specs.Store.{from}
 use Rattle.rules.specs.Lawful.{Lawful}
 use Rattle.rules.specs.Work.{Work}
-use Rattle.rules.specs.Calls.{ends, handed_out, runs_out, count_out, words_out}
+use Rattle.rules.specs.Calls.{ends, handed_out, count_out, words_out}
 use Rattle.rules.proofs.Index.{from_length}
 use Rattle.rules.proofs.Sizes.{words_few}
-use Rattle.handing_out.specs.Writing.{laid, Wrote}
+use Rattle.handing_out.specs.Writing.{Wrote}
 use Rattle.handing_out.specs.declared.write.Writer.{Writer}
 use Rattle.handing_out.proofs.Images.{runs, words, runs_more, words_more, runs_all, words_all}
 use Rattle.handing_out.proofs.Laying.{wrote_both, wrote_length, wrote_same, laid_whole, laid_first}

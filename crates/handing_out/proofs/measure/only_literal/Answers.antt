@@ -1,7 +1,6 @@
-use Rattle.std.proofs.Common.{◌*◌, true, false, ◌∙◌, ap}
-use Rattle.network.specs.Values.{literal}
+use Rattle.std.proofs.Common.{true, false, ◌∙◌, ap}
 use Rattle.network.specs.Assignments.{opposite}
-use Rattle.clause.specs.Types.{told, values_of}
+use Rattle.clause.specs.Types.{values_of}
 use Rattle.handing_out.proofs.Alone.{negative, alone, unvalued, known}
 use Rattle.handing_out.proofs.measure.only_literal.Goals as goal
 

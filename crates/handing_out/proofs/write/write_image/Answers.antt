@@ -1,9 +1,8 @@
-use Rattle.std.proofs.Common.{suc, ◌+◌, ◌≤◌, [], ◌∷◌, length, refl, sym, ap, ◌∙◌, rules, arith}
+use Rattle.std.proofs.Common.{suc, ◌+◌, [], ◌∷◌, refl, ap, rules, arith}
 use Rattle.simplifier.specs.Shown.{work_of}
-use Rattle.rules.specs.Calls.{words_out}
 use Rattle.handing_out.proofs.Images.{words_all}
 use Rattle.handing_out.proofs.Laying.{wrote_nothing, wrote_same}
-use Rattle.handing_out.proofs.Writing.{Begun, offset_room, run_room, end_small, node_more, all_written}
+use Rattle.handing_out.proofs.Writing.{offset_room, run_room, end_small, node_more, all_written}
 use Rattle.handing_out.proofs.write.write_image.Goals as goal
 
 pub split_at_mut-header-requires : goal.split_at_mut-header-requires

@@ -1,5 +1,4 @@
-use Rattle.std.proofs.Common.{◌≡◌, ◌+◌, ◌<◌, ◌≤◌, [], length, get_or, take, ap, ◌∙◌, sym, refl, arith}
-use Rattle.std.proofs.lemmas.List.{take_all}
+use Rattle.std.proofs.Common.{◌+◌, ◌≤◌, length, refl, arith}
 use Rattle.image.specs.Runs.{written}
 use Rattle.rules.proofs.Lawful.{own_few}
 use Rattle.handing_out.proofs.Runs.{size_more, own_short}
@@ -42,7 +41,7 @@ loop-at-preserved g c =
     })
 
 pub returns-clause-few : goal.returns-clause-few
-returns-clause-few g c = 
+returns-clause-few g c =
     let M = g.S.Lists.meaning c.args.store.now in
     let f = own_few M (g.met.S.Lists.lawful c.args.store.now) c.args.l in
     let s = g.met.S.Lists.small c.args.store.now in

@@ -1,4 +1,4 @@
-use Rattle.std.proofs.Common.{◌+◌, ◌*◌, [], ◌∷◌, List, ℕ}
+use Rattle.std.proofs.Common.{◌+◌, ◌*◌, [], ◌∷◌}
 use Rattle.rules.specs.Work.{own_of}
 use Rattle.simplifier.specs.Shown.{work_of}
 use Rattle.handing_out.proofs.Alone.{handed_is}

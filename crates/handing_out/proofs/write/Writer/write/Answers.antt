@@ -1,4 +1,4 @@
-use Rattle.std.proofs.Common.{◌+◌, ◌-◌, length, refl, ap, ◌∙◌, arith}
+use Rattle.std.proofs.Common.{length, refl, ap, ◌∙◌, arith}
 use Rattle.handing_out.specs.Writing.{laid}
 use Rattle.handing_out.proofs.Laying.{put_laid}
 use Rattle.handing_out.proofs.write.Writer.write.Goals as goal

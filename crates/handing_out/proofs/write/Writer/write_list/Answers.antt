@@ -1,7 +1,6 @@
-use Rattle.std.proofs.Common.{ℕ, ◌≡◌, ◌+◌, length, take, refl, ap, arith}
-use Rattle.std.proofs.lemmas.List.{take_all}
+use Rattle.std.proofs.Common.{◌+◌, length, arith}
 use Rattle.image.specs.Runs.{written}
-use Rattle.handing_out.proofs.Laying.{wrote_nothing, wrote_same}
+use Rattle.handing_out.proofs.Laying.{wrote_nothing}
 use Rattle.handing_out.proofs.Listing.{clause_fits, clause_room, clause_wrote}
 use Rattle.handing_out.proofs.Places.{placed}
 use Rattle.handing_out.proofs.Runs.{own_short}

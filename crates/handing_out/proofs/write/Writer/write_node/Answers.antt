@@ -1,4 +1,4 @@
-use Rattle.std.proofs.Common.{◌+◌, ◌*◌, [], length, sym, ap, arith}
+use Rattle.std.proofs.Common.{[], length, sym, ap, arith}
 use Rattle.simplifier.specs.Shown.{work_of}
 use Rattle.handing_out.proofs.Noding.{run_alone, run_lists, lists_length}
 use Rattle.handing_out.proofs.Laying.{wrote_both, wrote_length, wrote_same}
