@@ -72,17 +72,19 @@ impl Size {
         ensures few { result.words ≤ 270336 }
         ensures counted { result.clauses ≤ result.words }
     {
-        if let Some(_) = only_literal(s, node) {
-            return Size {
+        match only_literal(s, node) {
+            Some(_) => Size {
                 words: 2,
                 clauses: 1,
-            };
-        }
-        let positive = Size::of_list(&s.store, 2 * node);
-        let negative = Size::of_list(&s.store, 2 * node + 1);
-        Size {
-            words: positive.words + negative.words,
-            clauses: positive.clauses + negative.clauses,
+            },
+            None => {
+                let positive = Size::of_list(&s.store, 2 * node);
+                let negative = Size::of_list(&s.store, 2 * node + 1);
+                Size {
+                    words: positive.words + negative.words,
+                    clauses: positive.clauses + negative.clauses,
+                }
+            }
         }
     }
 

@@ -55,12 +55,13 @@ impl Writer<'_> {
         requires room { self.old.at + length (written (handed_out (work_of S.meaning s.now []) node)) ≤ length self.old.words.now }
         ensures { Wrote (written (handed_out (work_of S.meaning s.now []) node)) self.old self.new }
     {
-        if let Some(literal) = only_literal(s, node) {
-            self.write_clause(&[literal.word]);
-            return;
+        match only_literal(s, node) {
+            Some(literal) => self.write_clause(&[literal.word]),
+            None => {
+                self.write_list(&s.store, 2 * node);
+                self.write_list(&s.store, 2 * node + 1);
+            }
         }
-        self.write_list(&s.store, 2 * node);
-        self.write_list(&s.store, 2 * node + 1);
     }
 }
 

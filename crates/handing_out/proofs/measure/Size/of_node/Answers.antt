@@ -10,8 +10,8 @@ returns-in-Some-clause-measures g c =
     let l = c.in-Some.field-0.word in
     measures_same (handed_is (work_of g.S.Lists.meaning c.args.s.now []) c.args.node (λ Cs. (l ∷ []) ∷ []) c.in-Some.ensures) (measures_one l)
 
-pub returns-clause-measures : goal.returns-clause-measures
-returns-clause-measures g c =
+pub returns-in-None-clause-measures : goal.returns-in-None-clause-measures
+returns-in-None-clause-measures g c =
     let W = work_of g.S.Lists.meaning c.args.s.now [] in
-    measures_same (handed_is W c.args.node (λ Cs. Cs) c.in_default.ensures)
+    measures_same (handed_is W c.args.node (λ Cs. Cs) c.in-None.ensures)
     (measures_both (own_of W (2 * c.args.node)) (own_of W (2 * c.args.node + 1)) c.of_list-positive.result c.of_list-negative.result c.of_list-positive.ensures.measures c.of_list-negative.ensures.measures)

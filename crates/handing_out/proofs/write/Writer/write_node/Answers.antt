@@ -11,15 +11,15 @@ pub returns-in-Some : goal.returns-in-Some
 returns-in-Some g c = wrote_same (sym (run_alone (work_of g.S.Lists.meaning c.args.s.now []) c.args.node c.in-Some.literal.word c.in-Some.ensures)) c.write_clause.ensures
 
 pub write_list-requires : goal.write_list-requires
-write_list-requires g c = omega (arith, lists_length (work_of g.S.Lists.meaning c.args.s.now []) c.args.node c.in_default.ensures)
+write_list-requires g c = omega (arith, lists_length (work_of g.S.Lists.meaning c.args.s.now []) c.args.node c.in-None.ensures)
 
-pub write_list-requires-2 : goal.write_list-requires-2
-write_list-requires-2 g c =
-    let n = lists_length (work_of g.S.Lists.meaning c.args.s.now []) c.args.node c.in_default.ensures in
+pub write_list-requires-in-None : goal.write_list-requires-in-None
+write_list-requires-in-None g c =
+    let n = lists_length (work_of g.S.Lists.meaning c.args.s.now []) c.args.node c.in-None.ensures in
     omega (arith, n, wrote_length (omega (arith, n)) c.write_list.ensures)
 
-pub returns : goal.returns
-returns g c =
+pub returns-in-None : goal.returns-in-None
+returns-in-None g c =
     let W = work_of g.S.Lists.meaning c.args.s.now [] in
-    let n = lists_length W c.args.node c.in_default.ensures in
-    wrote_same (sym (run_lists W c.args.node c.in_default.ensures)) (wrote_both (omega (arith, n)) c.write_list.ensures c.write_list-2.ensures)
+    let n = lists_length W c.args.node c.in-None.ensures in
+    wrote_same (sym (run_lists W c.args.node c.in-None.ensures)) (wrote_both (omega (arith, n)) c.write_list.ensures c.write_list-in-None.ensures)
