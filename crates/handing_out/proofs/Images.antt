@@ -1,5 +1,5 @@
 -- The image, node by node. Assumes nothing.
-use Rattle.std.proofs.Common.{◌≡◌, ℕ, zero, suc, ◌+◌, ◌*◌, ◌≤◌, List, [], ◌∷◌, ◌++◌, map, length, sym, ap, ◌∙◌, append-nil, arith, flat_map}
+use Rattle.std.proofs.Common.{◌≡◌, ℕ, suc, ◌+◌, ◌*◌, ◌≤◌, List, [], ◌∷◌, ◌++◌, map, length, sym, ap, ◌∙◌, append-nil, arith, flat_map}
 use Rattle.std.proofs.lemmas.List.{length-append, map-append}
 use Rattle.std.proofs.lemmas.Grind.{flat_map-append}
 use Rattle.image.specs.Runs.{written}
@@ -7,14 +7,10 @@ use Rattle.rules.specs.Store.{from, sum_of}
 use Rattle.rules.specs.Work.{Work}
 use Rattle.rules.specs.Calls.{handed_out, runs_out, count_out, words_out}
 use Rattle.rules.proofs.Const.{suc_from}
+use Rattle.rules.proofs.Start.{from_more}
 use Rattle.rules.proofs.Words.{words_count}
 use Rattle.handing_out.specs.Sizes.{Measures}
 use Rattle.handing_out.specs.declared.measure.Size.{Size}
-
--- one number more
-from_more : (t i : ℕ) → from i (suc t) ≡ from i t ++ ((i + t) ∷ [])
-from_more zero i = ap (λ n. n ∷ []) (omega arith)
-from_more (suc t) i = ap (λ ns. i ∷ ns) (from_more t (suc i) ∙ ap (λ n. from (suc i) t ++ (n ∷ [])) (omega arith))
 
 -- the nodes 1 to k, and one more
 nodes_more : (k : ℕ) → from 1 (suc k) ≡ from 1 k ++ (suc k ∷ [])

@@ -5,6 +5,7 @@ use Rattle.image.specs.Runs.{written}
 use Rattle.rules.specs.Store.{Meaning}
 use Rattle.rules.specs.Lawful.{Lawful}
 use Rattle.rules.proofs.Formed.{formed_parts}
+use Rattle.rules.proofs.Lawful.{own_few}
 use Rattle.rules.proofs.Places.{in_at}
 use Rattle.handing_out.specs.Sizes.{Measures}
 use Rattle.handing_out.specs.declared.measure.Size.{Size}
@@ -31,6 +32,10 @@ module _ (Cs : List (List ℕ)) (i : ℕ) (less : i < length Cs) where
 -- some of the clauses are written as no more words than all
 pub part_shorter : (Cs : List (List ℕ)) (i : ℕ) → length (written (take i Cs)) ≤ length (written Cs)
 part_shorter Cs i = omega (arith, ap (λ Ds. length (written Ds)) (take-append-drop i Cs), ap length (written_append (take i Cs) (drop i Cs)), length-append (written (take i Cs)) (written (drop i Cs)))
+
+-- an own list is no longer than the largest room
+pub own_bounded : (M : Meaning) → Lawful M → M.room ≤ 4096 → (l : ℕ) → length (M.own l) ≤ 4096
+own_bounded M L small l = omega (arith, own_few M L l)
 
 -- a clause of an own list is short
 pub own_short : (M : Meaning) → Lawful M → (l i : ℕ) → i < length (M.own l) → length (get_or (M.own l) i []) ≤ 32

@@ -1,5 +1,5 @@
 -- The header and the runs of an image as they are written, node by node. Assumes nothing.
-use Rattle.std.proofs.Common.{◌≡◌, ℕ, zero, suc, ◌+◌, ◌-◌, ◌<◌, ◌≤◌, List, [], ◌∷◌, ◌++◌, length, take, drop, sym, refl, ap, ◌∙◌, append_assoc, arith, flat_map}
+use Rattle.std.proofs.Common.{◌≡◌, ℕ, zero, suc, ◌+◌, ◌-◌, ◌<◌, ◌≤◌, List, [], ◌∷◌, ◌++◌, length, take, drop, sym, ap, ◌∙◌, append_assoc, arith, flat_map}
 use Rattle.std.proofs.lemmas.List.{length-append, length-drop, length-map, length-take-le, drop-drop}
 use Rattle.image.specs.Runs.{written}
 use Rattle.rules.specs.Store.{from}
@@ -8,6 +8,7 @@ use Rattle.rules.specs.Work.{Work}
 use Rattle.rules.specs.Calls.{ends, handed_out, count_out, words_out}
 use Rattle.rules.proofs.Index.{from_length}
 use Rattle.rules.proofs.Sizes.{words_few}
+use Rattle.rules.proofs.Words.{ends_length}
 use Rattle.handing_out.specs.Writing.{Wrote}
 use Rattle.handing_out.specs.declared.write.Writer.{Writer}
 use Rattle.handing_out.proofs.Images.{runs, words, runs_more, words_more, runs_all, words_all}
@@ -17,10 +18,6 @@ use Rattle.handing_out.proofs.Laying.{wrote_both, wrote_length, wrote_same, laid
 ends_more : (Rs : List (List ℕ)) (r : List ℕ) (at : ℕ) → ends at (Rs ++ (r ∷ [])) ≡ ends at Rs ++ ((at + length (flat_map (λ x. x) Rs) + length r) ∷ [])
 ends_more [] r at = ap (λ n. n ∷ []) (omega arith)
 ends_more (q ∷ Rs) r at = ap (λ ns. (at + length q) ∷ ns) (ends_more Rs r (at + length q) ∙ ap (λ n. ends (at + length q) Rs ++ (n ∷ [])) (omega (arith, length-append q (flat_map (λ x. x) Rs))))
-
-ends_length : (Rs : List (List ℕ)) (at : ℕ) → length (ends at Rs) ≡ length Rs
-ends_length [] at = refl
-ends_length (r ∷ Rs) at = ap suc (ends_length Rs (at + length r))
 
 -- the words old are lent, in two parts: the writer h1 of the first has written three words, the writer r0 of the other nothing
 pub record Begun (W : Work) (old : List ℕ) (h1 r0 : Writer) : Type 0 where
@@ -89,12 +86,12 @@ module _ (W : Work) where
           end_small L t s = omega (arith, after_run, among (suc k) less, words_all W, words_few W L t, L.within)
 
           -- a node more
-          pub node_more : (h' : Writer) → Wrote ((W.top + 3 + r'.at) ∷ []) h h' → Upto W (suc k) h1 h' r0 r'
-          node_more h' p = record {
+          pub node_more : (end : ℕ) → end ≡ W.top + 3 + r'.at → (h' : Writer) → Wrote (end ∷ []) h h' → Upto W (suc k) h1 h' r0 r'
+          node_more end e h' p = record {
             below = less;
             ends =
                 wrote_same
-                (ap (λ n. ends (W.top + 3) (runs W k) ++ (n ∷ [])) (omega (arith, after_run, ap length (words_more W k), length-append (words W k) (written (handed_out W (suc k))))) ∙ sym (ends_more (runs W k) (written (handed_out W (suc k))) (W.top + 3)) ∙ ap (ends (W.top + 3)) (sym (runs_more W k)))
+                (ap (λ n. ends (W.top + 3) (runs W k) ++ (n ∷ [])) (omega (arith, e, after_run, ap length (words_more W k), length-append (words W k) (written (handed_out W (suc k))))) ∙ sym (ends_more (runs W k) (written (handed_out W (suc k))) (W.top + 3)) ∙ ap (ends (W.top + 3)) (sym (runs_more W k)))
                 (wrote_both ends_room u.ends p);
             runs = wrote_same (sym (words_more W k)) (wrote_both runs_room u.runs q);
           }

@@ -3,7 +3,7 @@ ghost use Rattle.handing_out.specs.Writing.{Wrote};
 ghost use Rattle.image.specs.Runs.{written};
 ghost use Rattle.rules.specs.Calls.{count_out, handed_out, words_out};
 ghost use Rattle.simplifier.specs.Shown.{work_of};
-ghost use Rattle.std.specs.Prelude.{◌≡◌, ◌+◌, ◌<◌, ◌≤◌, [], ◌∷◌, ◌++◌, length, drop};
+ghost use Rattle.std.specs.Prelude.{◌≡◌, ◌+◌, ◌^◌, ◌<◌, ◌≤◌, [], ◌∷◌, ◌++◌, length, drop};
 
 use crate::measure::only_literal;
 use simplifier::state::Simplifier;
@@ -25,6 +25,14 @@ impl Writer<'_> {
         let end = self.at + words.len();
         self.words[self.at..end].copy_from_slice(words);
         self.at = end;
+    }
+
+    // Where the written words end, behind `before` other words.
+    fn end(&self, before: u32) -> u32
+        requires { before + self.now.at < 2 ^ 32 }
+        ensures { result ≡ before + self.now.at }
+    {
+        before + self.at as u32
     }
 
     // Writes a clause: its length, and then its literals.
@@ -80,6 +88,6 @@ pub(crate) fn write_image<S: Lists>(s: &Simplifier<S>, clauses: u32, out: &mut [
     header.write(&[s.top, clauses, s.top + 3]);
     for node in 1..s.top + 1 {
         runs.write_node(s, node);
-        header.write(&[s.top + 3 + runs.at as u32]);
+        header.write(&[runs.end(s.top + 3)]);
     }
 }

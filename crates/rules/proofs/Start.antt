@@ -49,6 +49,11 @@ use Rattle.rules.proofs.Facts.{none_some}
 unfoldable pub by_owner : List (List ℕ) → Network
 by_owner Cs k = filter (λ C. eqb (owner C) k) Cs
 
+-- one number more
+pub from_more : (t i : ℕ) → from i (suc t) ≡ from i t ++ ((i + t) ∷ [])
+from_more zero i = ap (λ k. k ∷ []) (omega arith)
+from_more (suc t) i = ap (λ ks. i ∷ ks) (from_more t (suc i) ∙ ap (λ k. from (suc i) t ++ (k ∷ [])) (omega arith))
+
 pub from_in : (m i k : ℕ) → In k (from i m) → (i ≤ k) × (k < i + m)
 from_in zero i k h = absurd h
 from_in (suc m) i k h = ⊎_elim (λ e. (omega arith, omega arith)) (λ j. let (a, b) = from_in m (suc i) k j in (omega arith, omega arith)) h
@@ -243,10 +248,6 @@ module _ (ws : List ℕ) (I : Image ws) (fs : List Bool) (z : get_or fs 0 false 
         }
 
     -- how many clauses are entered
-    from_more : (t i : ℕ) → from i (suc t) ≡ from i t ++ ((i + t) ∷ [])
-    from_more zero i = ap (λ k. k ∷ []) (omega arith)
-    from_more (suc t) i = ap (λ ks. i ∷ ks) (from_more t (suc i) ∙ ap (λ k. from (suc i) t ++ (k ∷ [])) (omega arith))
-
     total_is : (k : ℕ) → length (flat_map (taken_in ws) (from 1 k)) ≡ total ws k
     total_is zero = refl
     total_is (suc k) = ap (λ xs. length (flat_map (taken_in ws) xs)) (from_more k 1) ∙ ap length (flat_map-append (taken_in ws) (from 1 k) ((1 + k) ∷ [])) ∙ length-append (flat_map (taken_in ws) (from 1 k)) (flat_map (taken_in ws) ((1 + k) ∷ []))

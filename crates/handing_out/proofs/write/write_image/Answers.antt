@@ -19,15 +19,8 @@ write_node-requires-clause-room g c =
     let (k, e, u) = c.loop-node.invariant.upto in
     rw e (run_room (work_of g.S.Lists.meaning c.args.s.now []) c.loop-node.invariant.begun u (omega arith))
 
-pub overflow_cast-runs : goal.overflow_cast-runs
-overflow_cast-runs g c =
-    let s = c.args.s.now in
-    let (k, e, u) = c.loop-node.invariant.upto in
-    let small = end_small (work_of g.S.Lists.meaning s []) c.loop-node.invariant.begun u (omega arith) (rw e at c.write_node.ensures) (g.met.S.Lists.lawful s.store) s.small (g.met.S.Lists.small s.store) in
-    omega (arith, small)
-
-pub overflow_add-s-in-loop-node-2 : goal.overflow_add-s-in-loop-node-2
-overflow_add-s-in-loop-node-2 g c =
+pub end-requires : goal.end-requires
+end-requires g c =
     let s = c.args.s.now in
     let (k, e, u) = c.loop-node.invariant.upto in
     let small = end_small (work_of g.S.Lists.meaning s []) c.loop-node.invariant.begun u (omega arith) (rw e at c.write_node.ensures) (g.met.S.Lists.lawful s.store) s.small (g.met.S.Lists.small s.store) in
@@ -43,7 +36,7 @@ loop-node-preserved g c =
     let (k, e, u) = c.loop-node.invariant.upto in
     record {
       begun = c.loop-node.invariant.begun;
-      upto = (suc k, omega arith, node_more (work_of g.S.Lists.meaning c.args.s.now []) c.loop-node.invariant.begun u (omega arith) (rw e at c.write_node.ensures) c.write-in-loop-node.new.self c.write-in-loop-node.ensures);
+      upto = (suc k, omega arith, node_more (work_of g.S.Lists.meaning c.args.s.now []) c.loop-node.invariant.begun u (omega arith) (rw e at c.write_node.ensures) c.end.result c.end.ensures c.write-in-loop-node.new.self c.write-in-loop-node.ensures);
     }
 
 pub returns : goal.returns

@@ -1,20 +1,17 @@
-use Rattle.std.proofs.Common.{◌+◌, ◌≤◌, length, refl, arith}
+use Rattle.std.proofs.Common.{◌≤◌, length, refl, arith}
 use Rattle.image.specs.Runs.{written}
-use Rattle.rules.proofs.Lawful.{own_few}
-use Rattle.handing_out.proofs.Runs.{size_more, own_short}
-use Rattle.handing_out.proofs.Places.{placed, within}
+use Rattle.handing_out.proofs.Runs.{size_more, own_bounded, own_short}
+use Rattle.handing_out.proofs.Places.{within}
 use Rattle.handing_out.proofs.measure.Size.of_list.Goals as goal
 
 pub loop-at-init : goal.loop-at-init
-loop-at-init g c = record { words = unfold written in refl; few = omega arith; counted = omega arith; place = placed (λ h i. g.S.Lists.at c.args.store.now h c.args.l i) (length ((g.S.Lists.meaning c.args.store.now).own c.args.l)) c.first-at.result 0 c.first-at.ensures }
+loop-at-init g c = record { words = unfold written in refl; few = omega arith; counted = omega arith; place = c.first-at.ensures }
 
 pub add-requires-clause-few : goal.add-requires-clause-few
 add-requires-clause-few g c =
-    let M = g.S.Lists.meaning c.args.store.now in
     let here = rw c.in-Some.is at c.loop-at.invariant.place in
-    let f = own_few M (g.met.S.Lists.lawful c.args.store.now) c.args.l in
-    let s = g.met.S.Lists.small c.args.store.now in
-    omega (arith, here.1)
+    let store = c.args.store.now in
+    omega (arith, here.1, own_bounded (g.S.Lists.meaning store) (g.met.S.Lists.lawful store) (g.met.S.Lists.small store) c.args.l)
 
 pub add-requires-clause-counted : goal.add-requires-clause-counted
 add-requires-clause-counted g c = c.loop-at.invariant.counted
@@ -37,12 +34,11 @@ loop-at-preserved g c =
       words = size_more own i c.loop-at.size.words _ c.clause.result.now here.1 (c.clause.ensures c.args.l i here.0) v.words c.add.ensures.words;
       few = omega arith;
       counted = omega arith;
-      place = placed (λ h i. g.S.Lists.at c.args.store.now h c.args.l i) (length own) c.next-at.result (i + 1) (c.next-at.ensures c.args.l i here.0);
+      place = c.next-at.ensures c.args.l i here.0;
     })
 
 pub returns-clause-few : goal.returns-clause-few
 returns-clause-few g c =
-    let M = g.S.Lists.meaning c.args.store.now in
-    let f = own_few M (g.met.S.Lists.lawful c.args.store.now) c.args.l in
-    let s = g.met.S.Lists.small c.args.store.now in
-    omega (arith, within (λ h i. g.S.Lists.at c.args.store.now h c.args.l i) _ c.loop-at.at _ c.loop-at.invariant.place)
+    let store = c.args.store.now in
+    let w = within (λ h i. g.S.Lists.at store h c.args.l i) (length ((g.S.Lists.meaning store).own c.args.l)) c.loop-at.at c.loop-at.size.clauses c.loop-at.invariant.place in
+    omega (arith, w, own_bounded (g.S.Lists.meaning store) (g.met.S.Lists.lawful store) (g.met.S.Lists.small store) c.args.l)
