@@ -1,5 +1,5 @@
 -- A node that is handed out as its value's clause alone. Assumes nothing.
-use Rattle.std.proofs.Common.{◌≡◌, ℕ, ◌+◌, ◌-◌, ◌*◌, ◌/◌, Bool, true, false, cond, List, [], ◌∷◌, Some, None, Option, sym, refl, ap, ◌∙◌, ◌++◌, arith}
+use Rattle.std.proofs.Common.{◌≡◌, ℕ, ◌+◌, ◌-◌, ◌*◌, ◌/◌, Bool, true, cond, List, [], ◌∷◌, Some, None, Option, sym, refl, ap, ◌∙◌, ◌++◌, arith}
 use Rattle.std.proofs.lemmas.Bool.Decides.{nat_tests}
 use Rattle.network.specs.Assignments.{opposite}
 use Rattle.network.specs.Values.{Values, flipped, sign, literal, unit_of}
@@ -31,11 +31,6 @@ alone n f V b l e v q Cs = ap (λ o. only_unit n f o Cs) (sym (positive V n) ∙
 -- a node without a value has its clauses
 pub unvalued : (n : ℕ) (f : Bool) (V : Values) → literal V (2 * n) ≡ None → (Cs : List (List ℕ)) → only_unit n f (V n) Cs ≡ Cs
 unvalued n f V v Cs = ap (λ o. only_unit n f o Cs) (sym (positive V n) ∙ v)
-
--- a node that is not frozen has its clauses
-pub unfrozen : (n : ℕ) (f : Bool) (o : Option Bool) → f ≡ false → (Cs : List (List ℕ)) → only_unit n f o Cs ≡ Cs
-unfrozen n f None e Cs = refl
-unfrozen n f (Some b) e Cs = ap (λ g. cond g (unit_of n b ∷ []) Cs) e
 
 -- what is told of a literal, by its number
 pub known : (V : Values) (l k : ℕ) {o : Option Bool} → l ≡ k → o ≡ literal V l → literal V k ≡ o

@@ -1,7 +1,6 @@
 // How long the image is.
 ghost use Rattle.handing_out.specs.Sizes.{Measures, or_alone};
 ghost use Rattle.clause.specs.Types.{values_of};
-ghost use Rattle.image.specs.Runs.{written};
 ghost use Rattle.rules.specs.Calls.{count_out, handed_out, only_unit, words_out};
 ghost use Rattle.simplifier.specs.Shown.{work_of};
 ghost use Rattle.std.specs.Prelude.{◌≡◌, ℕ, ◌+◌, ◌^◌, ◌<◌, ◌≤◌, false, [], List, length, slice_index_or};
@@ -46,7 +45,7 @@ impl Size {
         self.clauses += 1;
     }
 
-    // The size of an own list.
+    // The size of an own list, of at most 4,096 clauses of 33 words each.
     fn of_list<S: Lists>(store: &S, l: u32) -> Size
         ensures measures { Measures ((S.meaning store.now).own l) result }
         ensures few { result.words ≤ 135168 }
@@ -65,7 +64,7 @@ impl Size {
         size
     }
 
-    // The size of what is handed out of a node.
+    // The size of what is handed out of a node, at most two own lists.
     fn of_node<S: Lists>(s: &Simplifier<S>, node: u32) -> Size
         requires { node ≤ s.now.top }
         ensures measures { Measures (handed_out (work_of S.meaning s.now []) node) result }
