@@ -10,5 +10,6 @@
 #![tactic(auto)]
 
 mod costs;
+mod resolvents;
 
 pub use costs::{attempted_cost, cost};
