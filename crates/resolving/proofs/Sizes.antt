@@ -2,8 +2,8 @@
 use Rattle.std.proofs.Common.{◌≡◌, ℕ, ◌+◌, ◌*◌, ◌<◌, ◌≤◌, List, [], ◌∷◌, length, get_or, refl, ap, ⊎_elim, arith}
 use Rattle.std.proofs.lemmas.Bool.{cases_lt}
 use Rattle.std.proofs.lemmas.List.{get_or_past}
-use Rattle.rules.specs.Store.{Meaning, count, clause_at}
-use Rattle.rules.specs.Bve.{cost}
+use Rattle.rules.specs.Store.{Ref, live, dead, Meaning, count, clause_at}
+use Rattle.rules.specs.Bve.{cost, referred_clause}
 use Rattle.rules.specs.Lawful.{Lawful}
 use Rattle.rules.proofs.Formed.{formed_parts}
 use Rattle.rules.proofs.Lawful.{own_few, own_small}
@@ -31,3 +31,8 @@ module _ (M : Meaning) (L : Lawful M) where
   -- no clause has more than 32 literals
   pub clause_short : (l i : ℕ) → length (clause_at M l i) ≤ 32
   clause_short l i = ⊎_elim (λ h. (formed_parts (get_or (M.own l) i []) (L.formed l (get_or (M.own l) i []) (in_at (M.own l) i [] h))).short) (λ g. let e = ap length (get_or_past (M.own l) i [] g) in omega arith) (cases_lt i (length (M.own l)))
+
+  -- nor has one that a ref is to
+  pub referred_short : (r : Ref) → length (referred_clause M r) ≤ 32
+  referred_short (live l i) = clause_short l i
+  referred_short dead = omega arith

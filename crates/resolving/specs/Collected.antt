@@ -11,9 +11,13 @@ use Rattle.resolving.specs.declared.resolvents.Resolvents.{Resolvents}
 abbrev pub too_much : ℕ → List (List ℕ) → Bool
 too_much most Rs = list_any (λ R. nat_lt greatest_length (length R)) Rs || nat_lt most (length Rs)
 
--- the resolvents of the clause C upon p with the clauses that the refs Rs are to
-abbrev pub resolvents_of : Meaning → ℕ → List Ref → List ℕ → List (List ℕ)
-resolvents_of M p Rs C = flat_map (λ R. option_to_list (resolve p C (referred_clause M R))) Rs
+-- the resolvent of the clause C upon p with the clause that the ref r is to, if there is one
+abbrev pub resolvent_with : Meaning → ℕ → List ℕ → Ref → List (List ℕ)
+resolvent_with M p C r = option_to_list (resolve p C (referred_clause M r))
+
+-- the resolvents of the clause C upon p with the clauses that the refs rs are to
+abbrev pub resolvents_with : Meaning → ℕ → List Ref → List ℕ → List (List ℕ)
+resolvents_with M p rs C = flat_map (resolvent_with M p C) rs
 
 -- the resolvents that stand in the words
 abbrev pub collected : Resolvents → List (List ℕ)

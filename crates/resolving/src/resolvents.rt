@@ -37,7 +37,7 @@ fn used_clause<S: Store>(store: &S, user: S::Use) -> &[u32]
 }
 
 impl Resolvents<'_> {
-    ghost use Rattle.resolving.specs.Collected.{Added, resolvents_of};
+    ghost use Rattle.resolving.specs.Collected.{Added, resolvents_with};
 
     // Adds the resolvent of `a`, which has the pivot, and `b`, which has its opposite, if they have one. The answer is None where it is too
     // long or one too many.
@@ -62,7 +62,7 @@ impl Resolvents<'_> {
     // one too many.
     fn resolve_clause<S: Store>(&mut self, store: &S, clause: &[u32], pivot: Lit) -> Option<()>
         requires { length clause.now ≤ 32 }
-        ensures { Added (resolvents_of (S.meaning store.now) pivot.word ((S.meaning store.now).uses (opposite pivot.word)) clause.now) (is_some result) self.old self.new }
+        ensures { Added (resolvents_with (S.meaning store.now) pivot.word ((S.meaning store.now).uses (opposite pivot.word)) clause.now) (is_some result) self.old self.new }
     {
         let against = pivot.opposite().word;
         let mut at = store.first_use(against);
