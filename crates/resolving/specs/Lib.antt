@@ -1,2 +1,3 @@
 pub mod Costs
 pub mod Collected
+pub mod Answers

@@ -9,7 +9,9 @@
 // what all this means.
 #![tactic(auto)]
 
+mod collection;
 mod costs;
 mod resolvents;
 
+pub use collection::{collect, lemmas_of};
 pub use costs::{attempted_cost, cost};

@@ -9,7 +9,7 @@ use clause::{Lit, ordered_resolvent};
 use store::store::Store;
 
 // The words that each resolvent has for its literals, and the greatest length that it may have.
-const WIDTH: usize = 32;
+pub(crate) const WIDTH: usize = 32;
 
 // Resolvents in lent words: number k has its length at `lengths[k]` and its literals from `literals[32 * k]` on. There are `count` of them,
 // and no more than `most` may be collected.

@@ -1,0 +1,63 @@
+// All resolvents of a node in the words of a simplification, and what that leaves of them.
+ghost use Rattle.std.specs.Prelude.{◌≡◌, false, length, IfSome};
+ghost use Rattle.network.specs.Lemmas.{lemmas};
+ghost use Rattle.rules.specs.Bve.{all_resolvents};
+ghost use Rattle.resolving.specs.Answers.{suffice, unless_too_much, Stand, Left, Lent};
+
+use clause::Lit;
+use lemmas::Lemmas;
+use store::store::Store;
+
+use crate::costs::HIGHEST_NODE;
+use crate::resolvents::{Resolvents, WIDTH};
+
+// Whether the words suffice for `most` clauses and for one more, whole, which is then seen to be one too many.
+fn suffice(words: &Lemmas<'_>, most: u32) -> bool
+    ensures { result ≡ suffice most words.now }
+{
+    let n = most as usize;
+    n <= words.lengths.len()
+        && WIDTH * n + 2 * WIDTH <= words.literals.len()
+        && n <= words.order.len()
+        && n <= words.entries.len()
+        && n <= words.places.len()
+}
+
+// Collects the resolvents of a node and answers how many they are: those of the clauses of its positive literal first. The answer is None
+// where one is longer than 32 literals or they are more than `most`, and where the words do not suffice.
+pub fn collect<S: Store>(store: &S, node: u32, most: u32, words: &mut Lemmas<'_>) -> Option<u32>
+    ensures number { result ≡ unless_too_much most words.old (all_resolvents (S.meaning store.now) node) (length (all_resolvents (S.meaning store.now) node)) }
+    ensures stand { IfSome result (λ n. Stand n (all_resolvents (S.meaning store.now) node) words.new) }
+    ensures lent { Lent words.old words.new }
+    ensures line { (words.new.order ≡ words.old.order) × (words.new.entries ≡ words.old.entries) × (words.new.places ≡ words.old.places) }
+    ensures unchanged { suffice most words.old ≡ false → words.new ≡ words.old }
+{
+    if !suffice(words, most) {
+        return None;
+    }
+    if node > HIGHEST_NODE {
+        return Some(0);
+    }
+    let mut resolvents = Resolvents {
+        lengths: &mut *words.lengths,
+        literals: &mut *words.literals,
+        count: 0,
+        most,
+    };
+    let pivot = Lit::from(2 * node);
+    resolvents.resolve_sign(store, pivot)?;
+    resolvents.resolve_sign(store, pivot.opposite())?;
+    Some(resolvents.count)
+}
+
+// Collects the resolvents of a node and simplifies them among themselves. Answers how many are left, r, and `order[0..r]` names them in
+// their order. The answer is None where `collect` gives none.
+pub fn lemmas_of<S: Store>(store: &S, node: u32, most: u32, words: &mut Lemmas<'_>) -> Option<usize>
+    ensures number { result ≡ unless_too_much most words.old (all_resolvents (S.meaning store.now) node) (length (lemmas (all_resolvents (S.meaning store.now) node))) }
+    ensures left { IfSome result (λ n. Left n (lemmas (all_resolvents (S.meaning store.now) node)) words.new) }
+    ensures lent { Lent words.old words.new }
+    ensures unchanged { suffice most words.old ≡ false → words.new ≡ words.old }
+{
+    let count = collect(store, node, most, words)?;
+    words.lemmas_subsume_simplify(count)
+}
