@@ -1,10 +1,11 @@
 -- The resolvents of a node as they are collected in lent words. Assumes nothing.
 use Rattle.std.specs.Prelude.{◌≡◌, ℕ, Bool, true, not, ◌||◌, List, ◌++◌, length, is_some, nat_lt, flat_map, option_to_list}
 use Rattle.std.specs.List.{list_any, range_with_len}
+use Rattle.network.specs.Assignments.{opposite}
 use Rattle.network.specs.Resolution.{resolve}
 use Rattle.lemmas.specs.Words.{named, SameLent}
 use Rattle.rules.specs.Store.{Meaning, Ref}
-use Rattle.rules.specs.Bve.{referred_clause, greatest_length}
+use Rattle.rules.specs.Bve.{referred_clause, resolvents, greatest_length}
 use Rattle.resolving.specs.declared.resolvents.Resolvents.{Resolvents}
 
 -- one of the clauses is longer than 32 literals, or there are more than `most`
@@ -18,6 +19,10 @@ resolvent_with M p C r = option_to_list (resolve p C (referred_clause M r))
 -- the resolvents of the clause C upon p with the clauses that the refs rs are to
 abbrev pub resolvents_with : Meaning → ℕ → List Ref → List ℕ → List (List ℕ)
 resolvents_with M p rs C = flat_map (resolvent_with M p C) rs
+
+-- the resolvents upon p of the clauses that have it last, with the uses of its opposite
+abbrev pub of_sign : Meaning → ℕ → List (List ℕ)
+of_sign M p = resolvents M p (M.own p) (M.uses (opposite p))
 
 -- the resolvents that stand in the words
 abbrev pub collected : Resolvents → List (List ℕ)

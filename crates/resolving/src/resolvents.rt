@@ -2,7 +2,7 @@
 ghost use Rattle.std.specs.Prelude.{◌≡◌, ℕ, ◌+◌, ◌*◌, ◌<◌, ◌≤◌, is_some, length, option_to_list, slice_index, slice_index_or};
 ghost use Rattle.network.specs.Assignments.{opposite};
 ghost use Rattle.network.specs.Resolution.{resolve};
-ghost use Rattle.rules.specs.Bve.{referred_clause, resolvents};
+ghost use Rattle.rules.specs.Bve.{referred_clause};
 ghost use Rattle.rules.specs.Store.{dead};
 
 use clause::{Lit, ordered_resolvent};
@@ -37,7 +37,7 @@ fn used_clause<S: Store>(store: &S, user: S::Use) -> &[u32]
 }
 
 impl Resolvents<'_> {
-    ghost use Rattle.resolving.specs.Collected.{Added, resolvents_with};
+    ghost use Rattle.resolving.specs.Collected.{Added, of_sign, resolvents_with};
 
     // Adds the resolvent of `a`, which has the pivot, and `b`, which has its opposite, if they have one. The answer is None where it is too
     // long or one too many.
@@ -77,7 +77,7 @@ impl Resolvents<'_> {
     // Adds the resolvents of the clauses of a literal with the uses of its opposite. The answer is None where one is too long or one
     // too many.
     pub(crate) fn resolve_sign<S: Store>(&mut self, store: &S, pivot: Lit) -> Option<()>
-        ensures { Added (resolvents (S.meaning store.now) pivot.word ((S.meaning store.now).own pivot.word) ((S.meaning store.now).uses (opposite pivot.word))) (is_some result) self.old self.new }
+        ensures { Added (of_sign (S.meaning store.now) pivot.word) (is_some result) self.old self.new }
     {
         let mut at = store.first(pivot.word);
         for _k in 0..store.own_len(pivot.word) {
