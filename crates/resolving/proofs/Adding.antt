@@ -1,5 +1,5 @@
 -- What is collected after a resolvent has been written behind the others. Assumes nothing.
-use Rattle.std.proofs.Common.{◌≡◌, ℕ, ◌+◌, ◌*◌, ◌<◌, ◌≤◌, true, false, not, ◌⊎◌, List, [], ◌∷◌, ◌++◌, map, length, get_or, take, drop, set, Some, None, Option, sym, refl, ap, ◌∙◌, inl, inr, ⊎_elim, append-nil, arith, length-set, length-drop}
+use Rattle.std.proofs.Common.{◌≡◌, ℕ, ◌+◌, ◌*◌, ◌<◌, ◌≤◌, true, false, not, ◌⊎◌, List, [], ◌∷◌, ◌++◌, map, length, get_or, take, drop, set, Some, None, Option, sym, ap, ◌∙◌, inl, inr, ⊎_elim, append-nil, arith, length-set, length-drop}
 use borrow.Rule.Slice.PartMut.{put_mid, mid_of, same_len_mid}
 use Rattle.std.specs.Prelude.{option_to_list}
 use Rattle.std.specs.List.{range_with_len}
@@ -74,9 +74,9 @@ module _ (R R' : Resolvents) (k : ℕ) (sixty_four : k ≡ 64) (ys : List ℕ) (
       let W = R.literals.now in
       let at : get_or L' R.count 0 ≡ length xs = ap (λ L. get_or L R.count 0) lengths ∙ get_or-set_same R.lengths.now R.count n 0 (omega (arith, R.counted, R.within)) ∙ len in
       let last : clause_in L' W' R.count ≡ xs =
-          ap (λ m. take m (drop (32 * R.count) W')) at
-          ∙ ap (λ V. take (length xs) (drop (32 * R.count) V)) (words ∙ ap (put_mid (32 * R.count) k W) front)
-          ∙ clause_written W xs (drop n (mid_of (32 * R.count) k W)) (32 * R.count) k before
+      ap (λ m. take m (drop (32 * R.count) W')) at
+      ∙ ap (λ V. take (length xs) (drop (32 * R.count) V)) (words ∙ ap (put_mid (32 * R.count) k W) front)
+      ∙ clause_written W xs (drop n (mid_of (32 * R.count) k W)) (32 * R.count) k before
       in
       added_there (option_to_list o) R R'
       (ap (λ m. map (clause_in L' W') (range_with_len 0 m)) count ∙ map-range_with_len_more (clause_in L' W') 0 R.count R.count (omega arith)

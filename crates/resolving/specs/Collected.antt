@@ -1,5 +1,5 @@
 -- The resolvents of a node as they are collected in lent words. Assumes nothing.
-use Rattle.std.specs.Prelude.{◌≡◌, ℕ, Bool, true, not, ◌||◌, List, ◌++◌, length, is_some, nat_lt, flat_map, option_to_list}
+use Rattle.std.specs.Prelude.{◌≡◌, ℕ, Bool, true, not, ◌||◌, List, ◌++◌, length, nat_lt, flat_map, option_to_list}
 use Rattle.std.specs.List.{list_any, range_with_len}
 use Rattle.network.specs.Assignments.{opposite}
 use Rattle.network.specs.Resolution.{resolve}

@@ -4,12 +4,11 @@ ghost use Rattle.network.specs.Lemmas.{lemmas};
 ghost use Rattle.rules.specs.Bve.{all_resolvents};
 ghost use Rattle.resolving.specs.Answers.{suffice, unless_too_much, Stand, Left, Lent};
 
+use crate::costs::HIGHEST_NODE;
+use crate::resolvents::{Resolvents, WIDTH};
 use clause::Lit;
 use lemmas::Lemmas;
 use store::store::Store;
-
-use crate::costs::HIGHEST_NODE;
-use crate::resolvents::{Resolvents, WIDTH};
 
 // Whether the words suffice for `most` clauses and for one more, whole, which is then seen to be one too many.
 fn suffice(words: &Lemmas<'_>, most: u32) -> bool

@@ -1,8 +1,8 @@
 // What a node costs.
-ghost use Rattle.std.specs.Prelude.{◌≡◌, ◌+◌, length};
-ghost use Rattle.rules.specs.Bve.{cost};
+ghost use Rattle.std.specs.Prelude.{◌≡◌, ◌+◌, length, if◌then◌else◌};
+ghost use Rattle.rules.specs.Bve.{cost, passed_over};
 ghost use Rattle.rules.specs.Store.{count};
-ghost use Rattle.resolving.specs.Costs.{unless_passed_over};
+ghost use Rattle.rules.specs.Work.{Work};
 
 use store::store::Store;
 
@@ -31,7 +31,7 @@ pub fn cost<S: Store>(store: &S, node: u32) -> u32
 
 // The cost of a node that is to be attempted. None where it is passed over: it is frozen, without a clause, or too costly.
 pub fn attempted_cost<S: Store>(store: &S, node: u32, frozen: bool) -> Option<u32>
-    ensures { result ≡ unless_passed_over frozen (cost (S.meaning store.now) node) }
+    ensures { (W : Work) → W.store ≡ S.meaning store.now → W.frozen node ≡ frozen → result ≡ (if passed_over W node then None else Some (cost W.store node)) }
 {
     if frozen {
         return None;

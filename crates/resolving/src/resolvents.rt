@@ -66,6 +66,7 @@ impl Resolvents<'_> {
     {
         let against = pivot.opposite().word;
         let mut at = store.first_use(against);
+        // Counted, so that the walk is seen to end: there are as many uses as the count says, and `at` is never None here.
         for _k in 0..store.count(against) {
             let user = at?;
             self.add(clause, used_clause(store, user), pivot)?;
@@ -80,6 +81,7 @@ impl Resolvents<'_> {
         ensures { Added (of_sign (S.meaning store.now) pivot.word) (is_some result) self.old self.new }
     {
         let mut at = store.first(pivot.word);
+        // Counted as above.
         for _k in 0..store.own_len(pivot.word) {
             let handle = at?;
             self.resolve_clause(store, store.clause(handle), pivot)?;

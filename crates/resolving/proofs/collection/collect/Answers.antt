@@ -1,4 +1,4 @@
-use Rattle.std.proofs.Common.{[], length, refl, sym, ap, ◌∙◌, subst, arith, rules}
+use Rattle.std.proofs.Common.{length, refl, sym, arith, rules}
 use Rattle.rules.specs.Bve.{all_resolvents}
 use Rattle.resolving.proofs.Collecting.{none_past, answer_nothing, nothing_stands, both_added, first_less, given_up, counted, standing}
 use Rattle.resolving.proofs.collection.collect.Goals as goal

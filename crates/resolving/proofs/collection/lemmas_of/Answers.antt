@@ -1,9 +1,8 @@
 use Rattle.std.proofs.Common.{length, not, ◌&&◌}
-use Rattle.network.specs.Lemmas.{lemmas}
 use Rattle.rules.specs.Bve.{all_resolvents}
 use Rattle.resolving.specs.Answers.{suffice}
 use Rattle.resolving.specs.Collected.{too_much}
-use Rattle.resolving.proofs.Simplifying.{none_too, left_number, left_named, lent_on}
+use Rattle.resolving.proofs.Simplifying.{left_number, left_named, lent_on}
 use Rattle.resolving.proofs.collection.lemmas_of.Goals as goal
 
 pub returns-clause-number : goal.returns-clause-number

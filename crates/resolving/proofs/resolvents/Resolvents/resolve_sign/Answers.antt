@@ -1,9 +1,8 @@
-use Rattle.std.proofs.Common.{◌≡◌, ◌<◌, [], Bool, false, true, length, refl, ap, subst, arith}
+use Rattle.std.proofs.Common.{◌≡◌, ◌<◌, [], false, true, length, ap, subst, arith}
 use Rattle.network.specs.Assignments.{opposite}
 use Rattle.rules.specs.Store.{clause_at}
 use Rattle.rules.specs.Bve.{resolvents}
 use Rattle.resolving.specs.Collected.{Added, resolvents_with}
-use Rattle.resolving.specs.declared.resolvents.Resolvents.{Resolvents}
 use Rattle.resolving.proofs.Sizes.{clause_short}
 use Rattle.resolving.proofs.Walks.{here_some, added_none, walked_more, walked_less, walked_all}
 use Rattle.resolving.proofs.resolvents.Resolvents.resolve_sign.Goals as goal
