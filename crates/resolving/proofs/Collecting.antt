@@ -40,35 +40,23 @@ module _ {X : Type 0} (most : ℕ) (w : Lemmas) (s : suffice most w ≡ true) (R
   pub answer_some : too_much most Rs ≡ false → Some x ≡ unless_too_much most w Rs x
   answer_some e = sym (cond-true (suffice most w && not (too_much most Rs)) (Some x) None cc)
 
--- what is answered of no clause
-pub answer_nothing : (most : ℕ) (w : Lemmas) → suffice most w ≡ true → (Rs : List (List ℕ)) → Rs ≡ [] → Some 0 ≡ unless_too_much most w Rs (length Rs)
-answer_nothing most w s Rs e = subst (λ Cs. Some 0 ≡ unless_too_much most w Cs (length Cs)) (sym e) (answer_some most w s [] 0 (fits most (λ k. []) 0 (λ k h. absurd (omega arith)) (omega arith)))
-
-pub nothing_stands : (w : Lemmas) (Rs : List (List ℕ)) → Rs ≡ [] → Stand 0 Rs w
-nothing_stands w Rs e = record {
-  clauses = sym e;
-  admits = record { lengths = omega arith; literals = omega arith; order = omega arith; entries = omega arith; places = omega arith; short = λ k h. absurd (omega arith) };
-}
-
 -- what the test of the words says
 pub sufficed : (most : ℕ) (w : Lemmas) → suffice most w ≡ true → (most ≤ length w.order.now) × (most ≤ length w.entries.now) × (most ≤ length w.places.now)
 sufficed most w s = (grind (arith, nat_tests), grind (arith, nat_tests), grind (arith, nat_tests))
 
--- p is the positive literal of n, and q its opposite
-module _ (M : Meaning) (n p q : ℕ) (ep : p ≡ 2 * n) (eq : q ≡ opposite p) where
-  both_signs : of_sign M p ++ of_sign M q ≡ all_resolvents M n
+-- p is the positive literal of n
+module _ (M : Meaning) (n p : ℕ) (positive : p ≡ 2 * n) where
+  both_signs : of_sign M p ++ of_sign M (opposite p) ≡ all_resolvents M n
   unfolding all_resolvents
-  both_signs =
-      let e : opposite p ≡ 2 * n + 1 = ap opposite ep ∙ opposite_positive n in
-      let o : q ≡ 2 * n + 1 = eq ∙ e in
-      (λ i. resolvents M (ep i) (M.own (ep i)) (M.uses (e i)) ++ resolvents M (o i) (M.own (o i)) (M.uses ((ap opposite o ∙ opposite_negative n) i)))
+  both_signs = rw (positive, opposite_positive n, opposite_negative n) refl
 
-  -- all are added, or they are too much
-  pub both_added : {b : Bool} {R R₁ R₂ : Resolvents} → Added (of_sign M p) true R R₁ → Added (of_sign M q) b R₁ R₂ → Added (all_resolvents M n) b R R₂
-  both_added {b} {R} {R₁} {R₂} x y = subst (λ Rs. Added Rs b R R₂) both_signs (added_more (of_sign M q) x y)
-
+  -- the resolvents of the one sign were too much, and so are all
   pub first_less : {R R₁ : Resolvents} → Added (of_sign M p) false R R₁ → Added (all_resolvents M n) false R R₁
-  first_less {R} {R₁} x = subst (λ Rs. Added Rs false R R₁) both_signs (added_less (of_sign M q) x)
+  first_less {R} {R₁} x = subst (λ Rs. Added Rs false R R₁) both_signs (added_less (of_sign M (opposite p)) x)
+
+  -- those of the other sign are added too, or all are too much
+  pub both_added : (q : ℕ) → q ≡ opposite p → {b : Bool} {R R₁ R₂ : Resolvents} → Added (of_sign M p) true R R₁ → Added (of_sign M q) b R₁ R₂ → Added (all_resolvents M n) b R R₂
+  both_added q e {b} {R} {R₁} {R₂} x y = subst (λ Rs. Added Rs b R R₂) (ap (λ r. of_sign M p ++ of_sign M r) e ∙ both_signs) (added_more (of_sign M q) x y)
 
 -- what is collected where nothing was
 module _ (most : ℕ) (w : Lemmas) (s : suffice most w ≡ true) (Rs : List (List ℕ)) {R R₁ : Resolvents} (none : collected R ≡ []) (may : R.most ≡ most) where

@@ -17,10 +17,6 @@ Here o P n k = elim o [ None ↦ n ≡ k | Some x ↦ P x × (k < n) ]
 pub here_some : {X : Type 0} (o : Option X) (x : X) (P : X → Type 0) (n k : ℕ) → o ≡ Some x → Here o P n k → P x × (k < n)
 here_some o x P n k e h = subst (λ p. Here p P n k) e h
 
--- a walk at its end
-pub here_none : {X : Type 0} (o : Option X) (P : X → Type 0) (n k : ℕ) → o ≡ None → Here o P n k → n ≡ k
-here_none o P n k e h = subst (λ p. Here p P n k) e h
-
 -- nothing is added where nothing changes
 pub added_none : (R : Resolvents) → Added [] true R R
 added_none R = added_there [] R R (sym (append-nil (collected R))) refl (refl, refl) (refl, refl)

@@ -4,9 +4,7 @@ ghost use Rattle.network.specs.Lemmas.{lemmas};
 ghost use Rattle.rules.specs.Bve.{all_resolvents};
 ghost use Rattle.resolving.specs.Answers.{suffice, unless_too_much, Stand, Left, Lent};
 
-use crate::costs::HIGHEST_NODE;
 use crate::resolvents::{Resolvents, WIDTH};
-use clause::Lit;
 use lemmas::Lemmas;
 use store::store::Store;
 
@@ -34,18 +32,13 @@ pub fn collect<S: Store>(store: &S, node: u32, most: u32, words: &mut Lemmas<'_>
     if !suffice(words, most) {
         return None;
     }
-    if node > HIGHEST_NODE {
-        return Some(0);
-    }
     let mut resolvents = Resolvents {
         lengths: &mut *words.lengths,
         literals: &mut *words.literals,
         count: 0,
         most,
     };
-    let pivot = Lit::from(2 * node);
-    resolvents.resolve_sign(store, pivot)?;
-    resolvents.resolve_sign(store, pivot.opposite())?;
+    resolvents.resolve_node(store, node)?;
     Some(resolvents.count)
 }
 

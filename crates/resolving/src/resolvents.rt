@@ -2,9 +2,10 @@
 ghost use Rattle.std.specs.Prelude.{◌≡◌, ℕ, ◌+◌, ◌*◌, ◌<◌, ◌≤◌, is_some, length, option_to_list, slice_index, slice_index_or};
 ghost use Rattle.network.specs.Assignments.{opposite};
 ghost use Rattle.network.specs.Resolution.{resolve};
-ghost use Rattle.rules.specs.Bve.{referred_clause};
+ghost use Rattle.rules.specs.Bve.{all_resolvents, referred_clause};
 ghost use Rattle.rules.specs.Store.{dead};
 
+use crate::costs::HIGHEST_NODE;
 use clause::{Lit, ordered_resolvent};
 use store::store::Store;
 
@@ -77,7 +78,7 @@ impl Resolvents<'_> {
 
     // Adds the resolvents of the clauses of a literal with the uses of its opposite. The answer is None where one is too long or one
     // too many.
-    pub(crate) fn resolve_sign<S: Store>(&mut self, store: &S, pivot: Lit) -> Option<()>
+    fn resolve_sign<S: Store>(&mut self, store: &S, pivot: Lit) -> Option<()>
         ensures { Added (of_sign (S.meaning store.now) pivot.word) (is_some result) self.old self.new }
     {
         let mut at = store.first(pivot.word);
@@ -88,5 +89,18 @@ impl Resolvents<'_> {
             at = store.next(handle);
         }
         Some(())
+    }
+
+    // Adds the resolvents of a node, those of the clauses of its positive literal first. The answer is None where one is too long or one
+    // too many.
+    pub(crate) fn resolve_node<S: Store>(&mut self, store: &S, node: u32) -> Option<()>
+        ensures { Added (all_resolvents (S.meaning store.now) node) (is_some result) self.old self.new }
+    {
+        if node > HIGHEST_NODE {
+            return Some(());
+        }
+        let pivot = Lit::from(2 * node);
+        self.resolve_sign(store, pivot)?;
+        self.resolve_sign(store, pivot.opposite())
     }
 }
