@@ -13,7 +13,6 @@ use Rattle.resolving.specs.Answers.{suffice, unless_too_much, Stand}
 use Rattle.resolving.specs.Collected.{too_much, collected, of_sign, Added}
 use Rattle.resolving.specs.declared.resolvents.Resolvents.{Resolvents}
 use Rattle.resolving.proofs.Adding.{collected_fits}
-use Rattle.resolving.proofs.Fits.{fits}
 use Rattle.resolving.proofs.Sizes.{own_none}
 use Rattle.resolving.proofs.Walks.{added_more, added_less}
 use Rattle.resolving.proofs.Words.{clause_in}

@@ -1,8 +1,8 @@
 -- What is answered of the resolvents of a node, and what the words hold then. Assumes nothing.
-use Rattle.std.specs.Prelude.{◌≡◌, ℕ, ◌+◌, ◌*◌, Bool, cond, not, ◌&&◌, List, length, take, Some, None, Option, nat_le}
+use Rattle.std.specs.Prelude.{◌≡◌, ℕ, ◌+◌, ◌*◌, Bool, cond, not, ◌&&◌, List, length, take, Some, None, Option, nat_le, nat_lt, slice_index}
 use Rattle.std.specs.List.{range_with_len}
 use Rattle.lemmas.specs.Lines.{clauses_of, Admits, Lined}
-use Rattle.lemmas.specs.Words.{named, SameLent}
+use Rattle.lemmas.specs.Words.{lemma_at, named, SameLent}
 use Rattle.lemmas.specs.declared.Lemmas.{Lemmas}
 use Rattle.resolving.specs.Collected.{too_much}
 
@@ -25,6 +25,15 @@ pub record Stand (n : ℕ) (Rs : List (List ℕ)) (w : Lemmas) : Type 0 where
 pub record Left (n : ℕ) (Rs : List (List ℕ)) (w : Lemmas) : Type 0 where
   pub clauses : named (clauses_of w) (take n w.order.now) ≡ Rs
   pub lined : Lined (clauses_of w) w.order.now n
+
+-- the clause number k, unless not all its words are there
+abbrev pub numbered : Lemmas → ℕ → Option (List ℕ)
+numbered w k =
+    cond (nat_lt k (length w.lengths.now) && nat_le (32 * k + slice_index w.lengths.now k) (length w.literals.now)) (Some (lemma_at (clauses_of w) k)) None
+
+-- the clause that the line names at place p; none where the line has no such place, or not all words of the clause are there
+abbrev pub named_at : Lemmas → ℕ → Option (List ℕ)
+named_at w p = cond (nat_lt p (length w.order.now)) (numbered w (slice_index w.order.now p)) None
 
 -- the same words are lent as before, as many of them
 pub record Lent (w w' : Lemmas) : Type 0 where

@@ -8,7 +8,7 @@ use Rattle.rules.specs.Store.{Meaning, Ref}
 use Rattle.rules.specs.Bve.{referred_clause, resolvents, greatest_length}
 use Rattle.resolving.specs.declared.resolvents.Resolvents.{Resolvents}
 
--- one of the clauses is longer than 32 literals, or there are more than `most`
+-- one of the clauses is longer than 32 literals, or there are more than `most`: at the cost of a node, what `given_up` of the rules says
 abbrev pub too_much : ℕ → List (List ℕ) → Bool
 too_much most Rs = list_any (λ R. nat_lt greatest_length (length R)) Rs || nat_lt most (length Rs)
 

@@ -1,8 +1,8 @@
 // All resolvents of a node in the words of a simplification, and what that leaves of them.
-ghost use Rattle.std.specs.Prelude.{◌≡◌, false, length, IfSome};
+ghost use Rattle.std.specs.Prelude.{◌≡◌, ℕ, ◌<◌, false, length, List, [], Some, None, MatchOption, IfSome, slice_index_or};
 ghost use Rattle.network.specs.Lemmas.{lemmas};
 ghost use Rattle.rules.specs.Bve.{all_resolvents};
-ghost use Rattle.resolving.specs.Answers.{suffice, unless_too_much, Stand, Left, Lent};
+ghost use Rattle.resolving.specs.Answers.{suffice, unless_too_much, Stand, Left, Lent, named_at};
 
 use crate::resolvents::{Resolvents, WIDTH};
 use lemmas::Lemmas;
@@ -52,4 +52,15 @@ pub fn lemmas_of<S: Store>(store: &S, node: u32, most: u32, words: &mut Lemmas<'
 {
     let count = collect(store, node, most, words)?;
     words.lemmas_subsume_simplify(count)
+}
+
+// The clause that the line names at a place. None where the line has no such place, or not all words of the clause are there.
+pub fn clause_left<'a>(words: &'a Lemmas<'_>, place: usize) -> Option<&'a [u32]>
+    ensures named { MatchOption result (named_at words.now place ≡ None) (λ c. named_at words.now place ≡ Some c.now) }
+    ensures left { (n : ℕ) (Rs : List (List ℕ)) → Left n Rs words.now → place < n → MatchOption result ⊥ (λ c. c.now ≡ slice_index_or Rs place []) }
+{
+    let number = *words.order.get(place)? as usize;
+    let len = *words.lengths.get(number)? as usize;
+    let from = WIDTH * number;
+    words.literals.get(from..from + len)
 }

@@ -1,4 +1,4 @@
-use Rattle.std.proofs.Common.{[], false, true, sym, subst, arith}
+use Rattle.std.proofs.Common.{true, sym, subst, arith}
 use Rattle.resolving.specs.Collected.{Added}
 use Rattle.resolving.proofs.Collecting.{none_past, both_added, first_less}
 use Rattle.resolving.proofs.Walks.{added_none}
