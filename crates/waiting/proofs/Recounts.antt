@@ -12,7 +12,9 @@ use Rattle.waiting.specs.Waits.{times}
 pub front_take : (C : List ℕ) → take (length C - 1) C ≡ front C
 front_take [] = refl
 front_take (x ∷ []) = refl
-front_take (x ∷ y ∷ C) = ap (λ D. x ∷ D) (front_take (y ∷ C))
+front_take (x ∷ y ∷ C) =
+    let e : suc (suc (length C)) - 1 ≡ suc (suc (length C) - 1) = omega arith in
+    ap (λ n. take n (x ∷ y ∷ C)) e ∙ ap (λ D. x ∷ D) (front_take (y ∷ C))
 
 -- in a list of one
 pub times_one : (k : ℕ) → times k (k ∷ []) ≡ 1

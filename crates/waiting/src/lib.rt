@@ -5,8 +5,10 @@
 // is told. No call has a premise. Rests on `queue`, `store` (the traits) and `rules` (the next node in words).
 #![tactic(auto)]
 
+mod begin;
 mod counts;
 mod next;
 mod waiting;
 
+pub use begin::WORDS;
 pub use waiting::Waiting;
