@@ -1,3 +1,4 @@
 pub mod Waits
 pub mod Recounts
 pub mod Nexts
+pub mod Beginnings

@@ -1,5 +1,5 @@
 -- What waits, with what counts. Assumes nothing.
-use Rattle.std.specs.Prelude.{◌≡◌, ℕ, ◌+◌, ◌*◌, ◌-◌, ◌<◌, ◌≤◌, ◌↔◌, List, [], ◌∷◌, Some, None, Option, slice_index, nat_eq}
+use Rattle.std.specs.Prelude.{◌≡◌, ℕ, ◌+◌, ◌*◌, ◌<◌, ◌≤◌, ◌↔◌, List, [], ◌∷◌, Some, None, Option, slice_index, nat_eq}
 use Rattle.std.specs.List.{ContainsAt as Has}
 use Rattle.network.specs.Lists.{In}
 use Rattle.rules.specs.Store.{Meaning, count, how_many}

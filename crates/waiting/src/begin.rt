@@ -8,10 +8,9 @@ ghost use Rattle.queue.specs.Waiting.{waiting};
 ghost use Rattle.rules.specs.Store.{count};
 ghost use Rattle.waiting.specs.Waits.{Begins};
 
+use crate::waiting::Waiting;
 use queue::{Queue, WaitingNodes};
 use store::store::Store;
-
-use crate::waiting::Waiting;
 
 // How many words are lent: a count for each literal, and for each node its place and an entry.
 pub const WORDS: usize = 4096;
@@ -19,7 +18,11 @@ pub const WORDS: usize = 4096;
 impl<'w> Waiting<'w> {
     // The nodes 0 to `top` wait, with the counts of the store. The words are the first 4,096 of those lent, and the others are handed
     // back. The answer is none where fewer are lent, or where `top` is no node.
-    pub fn new<S: Store>(store: &S, top: u32, words: &'w mut [u32]) -> Option<(Waiting<'w>, &'w mut [u32])>
+    pub fn new<S: Store>(
+        store: &S,
+        top: u32,
+        words: &'w mut [u32],
+    ) -> Option<(Waiting<'w>, &'w mut [u32])>
         ensures { MatchOption result ((length words.old < 4096) ⊎ (1023 < top)) (λ p. Begins (S.meaning store.now) top p.0 × (4096 ≤ length words.old) × (top ≤ 1023) × (length p.1.now ≡ length words.old - 4096)) }
     {
         if words.len() < WORDS || top > 1023 {
@@ -31,13 +34,7 @@ impl<'w> Waiting<'w> {
         fill(counts, store, top);
         let mut queue = Queue::new(entries, places);
         build(counts, &mut queue, top);
-        Some((
-            Waiting {
-                counts,
-                queue,
-            },
-            others,
-        ))
+        Some((Waiting { counts, queue }, others))
     }
 }
 
@@ -48,7 +45,11 @@ fn fill<S: Store>(counts: &mut [u32], store: &S, top: u32)
     ensures none { (l : ℕ) → l < 2048 → 2 * top + 2 ≤ l → slice_index counts.new l ≡ 0 }
 {
     for (literal, place) in counts.iter_mut().enumerate() {
-        *place = if literal / 2 <= top as usize { store.count(literal as u32) } else { 0 };
+        *place = if literal / 2 <= top as usize {
+            store.count(literal as u32)
+        } else {
+            0
+        };
     }
 }
 

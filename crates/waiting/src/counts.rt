@@ -6,9 +6,8 @@ ghost use Rattle.queue.specs.Keys.{by_key, count_sum};
 ghost use Rattle.queue.specs.Waiting.{waiting, Rearranged};
 ghost use Rattle.waiting.specs.Waits.{counts_of, both_counts, SameWait, times};
 
-use queue::{Keyed, Queue, WaitingNodes};
-
 use crate::waiting::Waiting;
+use queue::{Keyed, Queue, WaitingNodes};
 
 impl Waiting<'_> {
     // Both counts of a node. A count past the end is 0.

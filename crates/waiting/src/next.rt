@@ -6,9 +6,8 @@ ghost use Rattle.queue.specs.Keys.{by_key, count_sum};
 ghost use Rattle.queue.specs.Waiting.{waiting};
 ghost use Rattle.waiting.specs.Waits.{counts_of, both_counts, WaitAll, Next};
 
-use queue::{Queue, WaitingNodes};
-
 use crate::waiting::Waiting;
+use queue::{Queue, WaitingNodes};
 
 impl Waiting<'_> {
     // Hands out the node with the fewest uses, of those the lowest. The answer is none where no node waits.
