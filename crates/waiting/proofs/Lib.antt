@@ -2,3 +2,4 @@ pub mod Waits
 pub mod Recounts
 pub mod Nexts
 pub mod Beginnings
+pub mod Kept

@@ -36,8 +36,12 @@ abbrev pub Next : (ℕ → ℕ) → List ℕ → Option ℕ → Waiting → Type
 Next f [] r w = r ≡ None
 Next f (k ∷ ks) r w = (r ≡ Some (least f k ks)) × WaitAll w (but (least f k ks) (k ∷ ks))
 
+-- the counts of the literals of the nodes 0 to top are those of M
+abbrev pub Counting : Meaning → ℕ → Waiting → Type 0
+Counting M top w = (l : ℕ) → l < 2 * top + 2 → counts_of w l ≡ count M l
+
 -- as it begins: the counts are those of M for the literals of the nodes 0 to top, and these nodes wait
 pub record Begins (M : Meaning) (top : ℕ) (w : Waiting) : Type 0 where
-  pub counts : (l : ℕ) → l < 2 * top + 2 → counts_of w l ≡ count M l
+  pub counts : Counting M top w
   pub none : (l : ℕ) → 2 * top + 2 ≤ l → counts_of w l ≡ 0
   pub waits : (n : ℕ) → Waits w n ↔ (n ≤ top)
