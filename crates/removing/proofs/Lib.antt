@@ -1,1 +1,2 @@
 pub mod Clears
+pub mod Ruled
