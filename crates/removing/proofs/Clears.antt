@@ -78,10 +78,11 @@ module _ (n l : ℕ) where
     pub left : rest i N ≡ without_named n l M
     pub far : length (N.own l) + k ≡ i + length (M.own l)
     pub waits : SameWait v w
-    pub counts : Indexed M → (top : ℕ) → Counting M top v → Indexed N × Counting N top w
+    pub index : Indexed M → Indexed N
+    pub counts : Indexed M → (top : ℕ) → Counting M top v → Counting N top w
 
   pub going_starts : (M : Meaning) (v : Waiting) → Going 0 0 M M v v
-  going_starts M v = record { left = rest_start M; far = omega arith; waits = λ n. (λ h. h, λ h. h); counts = λ I top c. (I, c) }
+  going_starts M v = record { left = rest_start M; far = omega arith; waits = λ n. (λ h. h, λ h. h); index = λ I. I; counts = λ I top c. c }
 
   module _ (i k : ℕ) (M N : Meaning) (v w : Waiting) (g : Going i k M N v w) where
     pub going_ends : length (N.own l) ≤ i → N ≡ without_named n l M
@@ -89,7 +90,7 @@ module _ (n l : ℕ) where
 
     module _ (h : i < length (N.own l)) where
       pub going_stays : names n (get_or (N.own l) i []) ≡ false → Going (i + 1) (k + 1) M N v w
-      going_stays t = record { left = rest_stays i N h t ∙ g.left; far = omega (arith, g.far); waits = g.waits; counts = g.counts }
+      going_stays t = record { left = rest_stays i N h t ∙ g.left; far = omega (arith, g.far); waits = g.waits; index = g.index; counts = g.counts }
 
       pub going_goes : names n (get_or (N.own l) i []) ≡ true → Lawful N → Lawful (removed l i N) → (x : Waiting) → SameWait w x
           → ((k : ℕ) → k < 2048 → counts_of x k ≡ counts_of w k - times k (front (get_or (N.own l) i []))) → Going i (k + 1) M (removed l i N) v x
@@ -97,7 +98,8 @@ module _ (n l : ℕ) where
         left = rest_goes i N h t ∙ g.left;
         far = omega (arith, g.far, removed_length N l i);
         waits = same_trans v w x g.waits s;
-        counts = λ I top c. let (J, d) = g.counts I top c in (removed_indexed N l i J h, goes_counting N J L l i h L' top w x e d);
+        index = λ I. removed_indexed N l i (g.index I) h;
+        counts = λ I top c. goes_counting N (g.index I) L l i h L' top w x e (g.counts I top c);
       }
 
 -- what is said of an option, as the contracts of a store say it

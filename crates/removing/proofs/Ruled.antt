@@ -1,7 +1,7 @@
 -- Where an index stands as it was made, to clear the clauses that name a node is to take it out. Assumes nothing.
 use Rattle.std.proofs.Common.{◌≡◌, ℕ, zero, suc, ◌+◌, ◌-◌, ◌*◌, ◌<◌, ◌≤◌, Bool, true, false, ◌||◌, ◌⊎◌, cond, ltb, eqb, List, [], ◌∷◌, ◌++◌, map, length, get_or, replicate, sym, refl, ap, ◌∙◌, subst, inl, inr, ⊎_elim, arith}
 use Rattle.std.specs.List.{list_any}
-use Rattle.std.proofs.lemmas.Bool.{cases_eq, cases_Bool, both_ways, cond-false, cond_both, or_cases, or_from, cases_lt, eq-eqb, eqb-true}
+use Rattle.std.proofs.lemmas.Bool.{cases_eq, cases_Bool, both_ways, cond-false, cond_both, or_cases, or_from, or_parts, cases_lt, eq-eqb, eqb-true}
 use Rattle.std.proofs.lemmas.List.{length-map, get_or_past}
 use Rattle.network.specs.Assignments.{node}
 use Rattle.network.specs.Lists.{In}
@@ -10,7 +10,7 @@ use Rattle.network.proofs.Lists.{any_from, any_some, any_none, has_in}
 use Rattle.rules.specs.Bve.{use_marks, uses_cleared, taken_out}
 use Rattle.rules.specs.Index.{Indexed}
 use Rattle.rules.specs.Lawful.{Lawful}
-use Rattle.rules.specs.Store.{live, Meaning, is_at, from, up_to, removed}
+use Rattle.rules.specs.Store.{Ref, live, Meaning, is_at, from, up_to, removed}
 use Rattle.rules.specs.Work.{Work, storing, taking_out, each, literals_of, cleared, clear, clear_all}
 use Rattle.rules.proofs.Clear.{clear_is, clear_all_is}
 use Rattle.rules.proofs.Formed.{Formed, formed_parts, front_below, some_not_nil}
@@ -19,7 +19,7 @@ use Rattle.rules.proofs.Once.{is_at_of}
 use Rattle.rules.proofs.Places.{in_at}
 use Rattle.rules.proofs.TakenOut.{front_in, front_or_last}
 use Rattle.rules.proofs.Verdicts.{last_in}
-use Rattle.removing.specs.Outs.{names, without_named, literals_after, uses_gone, named_out}
+use Rattle.removing.specs.Outs.{is_of, names, used_in, gone_if_used, without_named, literals_after, uses_gone, named_out}
 
 -- ## Lists and steps in turn
 
@@ -100,9 +100,16 @@ module _ (n : ℕ) where
   unfolding without_named
   without_indexed l M = (clear_is l (map (names n) (M.own l)) M (marks_few l M)).index
 
-  each_apart : (m a : ℕ) (M : Meaning) (k : ℕ) → k < a → (each (without_named n) (from a m) M).own k ≡ M.own k
-  each_apart zero a M k h = refl
-  each_apart (suc m) a M k h = each_apart m (suc a) (without_named n a M) k (omega arith) ∙ without_apart a M k (λ e. omega (arith, e))
+  -- the same of own lists that have no use of n
+  gone_apart : (S : Meaning) (l : ℕ) (M : Meaning) (k : ℕ) → (k ≡ l → ⊥) → (gone_if_used S n l M).own k ≡ M.own k
+  gone_apart S l M k a = cond_both (used_in S n l) (without_named n l M) M (λ P. P.own k ≡ M.own k) (λ t. without_apart l M k a) (λ t. refl)
+
+  pub gone_indexed : (S : Meaning) (l : ℕ) (M : Meaning) → Indexed M → Indexed (gone_if_used S n l M)
+  gone_indexed S l M I = cond_both (used_in S n l) (without_named n l M) M Indexed (λ t. without_indexed l M I) (λ t. I)
+
+  each_apart : (S : Meaning) (m a : ℕ) (M : Meaning) (k : ℕ) → k < a → (each (gone_if_used S n) (from a m) M).own k ≡ M.own k
+  each_apart S zero a M k h = refl
+  each_apart S (suc m) a M k h = each_apart S m (suc a) (gone_if_used S n a M) k (omega arith) ∙ gone_apart S a M k (λ e. omega (arith, e))
 
   -- before the last place of a clause of another node stands a literal of n, or none
   front_named : (C : List ℕ) (l : ℕ) → last C ≡ l → (node l ≡ n → ⊥) → (has (2 * n) (front C) || has (2 * n + 1) (front C)) ≡ names n C
@@ -139,23 +146,36 @@ module _ (n : ℕ) where
             ap (λ i. list_any (is_at l i) (M.uses (2 * n)) || list_any (is_at l i) (M.uses (2 * n + 1))) z ∙ (λ k. use_is (2 * n) j h k || use_is (2 * n + 1) j h k)
             ∙ front_named (get_or (M.own l) j []) l (ok (get_or (M.own l) j []) (in_at (M.own l) j [] h)).1 a
 
-    marks_low : l < 2 * n + 2 → (j : ℕ) → get_or (use_marks M n l) j false ≡ false
-    marks_low low j = ⊎_elim within past (cases_lt j (length (M.own l)))
+    -- a place that no use of n has is not marked
+    marks_none : (j : ℕ) → (j < length (M.own l) → (x : ℕ) → node x ≡ n → list_any (is_at l j) (M.uses x) ≡ false) → get_or (use_marks M n l) j false ≡ false
+    marks_none j unused = ⊎_elim within past (cases_lt j (length (M.own l)))
       where
         test : ℕ → Bool
         test i = list_any (is_at l i) (M.uses (2 * n)) || list_any (is_at l i) (M.uses (2 * n + 1))
 
-        unused : (x : ℕ) → node x ≡ n → j < length (M.own l) → list_any (is_at l j) (M.uses x) ≡ false
-        unused x e h =
-            let C = get_or (M.own l) j [] in
-            let (f, q) = ok C (in_at (M.own l) j [] h) in
-            ⊎_elim (λ t. absurd (omega (arith, front_below C f.order x (has_in x (front C) (sym (use_is x j h) ∙ t)), ap node q, e))) (λ t. t) (cases_Bool (list_any (is_at l j) (M.uses x)))
-
         within : j < length (M.own l) → get_or (use_marks M n l) j false ≡ false
-        within h = map_from test false (length (M.own l)) 0 j h ∙ ap test (omega arith) ∙ or_from (list_any (is_at l j) (M.uses (2 * n))) (list_any (is_at l j) (M.uses (2 * n + 1))) (unused (2 * n) (omega arith) h) (unused (2 * n + 1) (omega arith) h)
+        within h = map_from test false (length (M.own l)) 0 j h ∙ ap test (omega arith) ∙ or_from (list_any (is_at l j) (M.uses (2 * n))) (list_any (is_at l j) (M.uses (2 * n + 1))) (unused h (2 * n) (omega arith)) (unused h (2 * n + 1) (omega arith))
 
         past : length (M.own l) ≤ j → get_or (use_marks M n l) j false ≡ false
         past h = get_or_past (use_marks M n l) j false (omega (arith, length-map (up_to (length (M.own l))) test, from_length (length (M.own l)) 0))
+
+    marks_low : l < 2 * n + 2 → (j : ℕ) → get_or (use_marks M n l) j false ≡ false
+    marks_low low j = marks_none j (λ h x e. ⊎_elim (λ t. absurd (lower h x e t)) (λ t. t) (cases_Bool (list_any (is_at l j) (M.uses x))))
+      where
+        lower : j < length (M.own l) → (x : ℕ) → node x ≡ n → list_any (is_at l j) (M.uses x) ≡ true → ⊥
+        lower h x e t =
+            let C = get_or (M.own l) j [] in
+            let (f, q) = ok C (in_at (M.own l) j [] h) in
+            omega (arith, front_below C f.order x (has_in x (front C) (sym (use_is x j h) ∙ t)), ap node q, e)
+
+    marks_unused : used_in M n l ≡ false → (j : ℕ) → get_or (use_marks M n l) j false ≡ false
+    marks_unused u j = marks_none j (λ h x e. ⊎_elim (λ t. let (r, i, q) = any_some (is_at l j) (M.uses x) t in absurd (both_ways (is_of l r) (apart x e r i) (ap (is_of l) (is_at_of l j r q) ∙ eq-eqb l l refl))) (λ t. t) (cases_Bool (list_any (is_at l j) (M.uses x))))
+      where
+        parts : (list_any (is_of l) (M.uses (2 * n)) ≡ false) × (list_any (is_of l) (M.uses (2 * n + 1)) ≡ false)
+        parts = or_parts (list_any (is_of l) (M.uses (2 * n))) (list_any (is_of l) (M.uses (2 * n + 1))) u
+
+        apart : (x : ℕ) → node x ≡ n → (r : Ref) → In r (M.uses x) → is_of l r ≡ false
+        apart x e r i = ⊎_elim (λ z. any_none (is_of l) (M.uses (2 * n)) parts.0 r (subst (λ y. In r (M.uses y)) z i)) (λ z. let y : x ≡ 2 * n + 1 = omega (arith, z, e) in any_none (is_of l) (M.uses (2 * n + 1)) parts.1 r (subst (λ y. In r (M.uses y)) y i)) (cases_eq x (2 * n))
 
     -- the clauses that are uses of n are those that name it
     cleared_named : 2 * n + 2 ≤ l → clear l (use_marks M n l) M ≡ without_named n l M
@@ -168,11 +188,19 @@ module _ (n : ℕ) where
   own_cleared M l ok e = ap (λ marks. clear l marks M) (sym (own_named l (M.own l) ok e))
 
   -- the uses of n among the clauses of later literals
-  sweeps_same : (m a : ℕ) (N : Meaning) → Indexed N → 2 * n + 2 ≤ a → ((k : ℕ) → a ≤ k → Kept k (N.own k)) → each (λ l P. clear l (use_marks P n l) P) (from a m) N ≡ each (without_named n) (from a m) N
-  sweeps_same zero a N I h ok = refl
-  sweeps_same (suc m) a N I h ok =
-      ap (each (λ l P. clear l (use_marks P n l) P) (from (suc a) m)) (cleared_named N I a (ok a (omega arith)) h)
-      ∙ sweeps_same m (suc a) (without_named n a N) (without_indexed a N I) (omega arith) (λ k le. subst (Kept k) (sym (without_apart a N k (λ e. omega (arith, e)))) (ok k (omega arith)))
+  module _ (S : Meaning) (I : Indexed S) (ok : (l : ℕ) → Kept l (S.own l)) where
+    cleared_if_used : (l : ℕ) (N : Meaning) → Indexed N → 2 * n + 2 ≤ l → N.own l ≡ S.own l → clear l (use_marks N n l) N ≡ gone_if_used S n l N
+    unfolding without_named
+    cleared_if_used l N J h e =
+        let is = cleared_named N J l (subst (Kept l) (sym e) (ok l)) h in
+        cond_both (used_in S n l) (without_named n l N) N (λ P. clear l (use_marks N n l) N ≡ P) (λ t. is)
+        (λ f. is ∙ clear_idle l (map (names n) (N.own l)) N (λ j. ap (λ Cs. get_or (map (names n) Cs) j false) e ∙ ap (λ marks. get_or marks j false) (sym (marks_named S I l (ok l) (λ q. omega (arith, q)))) ∙ marks_unused S I l (ok l) f j))
+
+    sweeps_same : (m a : ℕ) (N : Meaning) → Indexed N → 2 * n + 2 ≤ a → ((k : ℕ) → a ≤ k → N.own k ≡ S.own k) → each (λ l P. clear l (use_marks P n l) P) (from a m) N ≡ each (gone_if_used S n) (from a m) N
+    sweeps_same zero a N J h e = refl
+    sweeps_same (suc m) a N J h e =
+        ap (each (λ l P. clear l (use_marks P n l) P) (from (suc a) m)) (cleared_if_used a N J h (e a (omega arith)))
+        ∙ sweeps_same m (suc a) (gone_if_used S n a N) (gone_indexed S a N J) (omega arith) (λ k le. gone_apart S a N k (λ q. omega (arith, q)) ∙ e k (omega arith))
 
   module _ (W : Work) (I : Indexed W.store) (L : Lawful W.store) (le : n ≤ W.top) where
     ok : (l : ℕ) → Kept l (W.store.own l)
@@ -184,7 +212,7 @@ module _ (n : ℕ) where
         let split : 2 * W.top + 2 ≡ (2 * n + 2) + 2 * (W.top - n) = omega arith in
         ap (λ m. each f (from 0 m) W.store) split ∙ ap (λ ls. each f ls W.store) (from_parts (2 * n + 2) (2 * (W.top - n)) 0)
         ∙ each_parts f (from 0 (2 * n + 2)) (from (0 + (2 * n + 2)) (2 * (W.top - n))) W.store ∙ (λ j. each f (from (start j) (2 * (W.top - n))) (idle j))
-        ∙ sweeps_same (2 * (W.top - n)) (2 * n + 2) W.store I (omega arith) (λ k _. ok k)
+        ∙ sweeps_same W.store I ok (2 * (W.top - n)) (2 * n + 2) W.store I (omega arith) (λ k _. refl)
       where
         start : 0 + (2 * n + 2) ≡ 2 * n + 2
         start = omega arith
@@ -198,8 +226,8 @@ module _ (n : ℕ) where
         let S = W.store in
         let N = uses_gone n W.top S in
         let P = without_named n (2 * n) N in
-        let first : N.own (2 * n) ≡ S.own (2 * n) = each_apart (2 * (W.top - n)) (2 * n + 2) S (2 * n) (omega arith) in
-        let second : P.own (2 * n + 1) ≡ S.own (2 * n + 1) = without_apart (2 * n) N (2 * n + 1) (λ e. omega arith) ∙ each_apart (2 * (W.top - n)) (2 * n + 2) S (2 * n + 1) (omega arith) in
+        let first : N.own (2 * n) ≡ S.own (2 * n) = each_apart S (2 * (W.top - n)) (2 * n + 2) S (2 * n) (omega arith) in
+        let second : P.own (2 * n + 1) ≡ S.own (2 * n + 1) = without_apart (2 * n) N (2 * n + 1) (λ e. omega arith) ∙ each_apart S (2 * (W.top - n)) (2 * n + 2) S (2 * n + 1) (omega arith) in
         ap (storing (taking_out W n))
         (sym (ap (λ X. clear_all (2 * n + 1) (clear_all (2 * n) X)) uses_cleared_named ∙ ap (clear_all (2 * n + 1)) (own_cleared N (2 * n) (subst (Kept (2 * n)) (sym first) (ok (2 * n))) (omega arith))
         ∙ own_cleared P (2 * n + 1) (subst (Kept (2 * n + 1)) (sym second) (ok (2 * n + 1))) (omega arith)))

@@ -6,4 +6,7 @@
 #![tactic(auto)]
 
 mod clear;
+mod take;
+
+pub use take::{Debt, take_out};
 

@@ -35,7 +35,8 @@ returns-in_default g c =
     record {
       makes = going_ends c.args.node c.args.l i c.loop-k._k M (g.S.Lists.meaning s) c.args.waiting.now c.loop-k.waiting w (subst (Reached g.S.Lists.meaning g.S.Lists.at s c.args.l i) c.in_default.is r);
       waits = w.waits;
-      counts = λ I top d. (w.counts I top d).1;
+      index = w.index;
+      counts = w.counts;
     }
 
 pub returns : goal.returns
@@ -45,5 +46,6 @@ returns g c =
     record {
       makes = going_ends c.args.node c.args.l i c.loop-k._k M (g.S.Lists.meaning c.loop-k.store) c.args.waiting.now c.loop-k.waiting w (omega (arith, w.far, c.own_len-k-end.ensures, c.loop-k-test.false));
       waits = w.waits;
-      counts = λ I top d. (w.counts I top d).1;
+      index = w.index;
+      counts = w.counts;
     }
