@@ -1,2 +1,4 @@
 pub mod Clears
 pub mod Ruled
+pub mod Flags
+pub mod Sweeps

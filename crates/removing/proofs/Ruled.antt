@@ -1,5 +1,5 @@
 -- Where an index stands as it was made, to clear the clauses that name a node is to take it out. Assumes nothing.
-use Rattle.std.proofs.Common.{◌≡◌, ℕ, zero, suc, ◌+◌, ◌-◌, ◌*◌, ◌<◌, ◌≤◌, Bool, true, false, ◌||◌, ◌⊎◌, cond, ltb, eqb, List, [], ◌∷◌, ◌++◌, map, length, get_or, replicate, sym, refl, ap, ◌∙◌, subst, inl, inr, ⊎_elim, arith}
+use Rattle.std.proofs.Common.{◌≡◌, ℕ, zero, suc, ◌+◌, ◌-◌, ◌*◌, ◌<◌, ◌≤◌, Bool, true, false, ◌||◌, ◌⊎◌, ltb, eqb, List, [], ◌∷◌, ◌++◌, map, length, get_or, replicate, sym, refl, ap, ◌∙◌, subst, inl, inr, ⊎_elim, arith}
 use Rattle.std.specs.List.{list_any}
 use Rattle.std.proofs.lemmas.Bool.{cases_eq, cases_Bool, both_ways, cond-false, cond_both, or_cases, or_from, or_parts, cases_lt, eq-eqb, eqb-true}
 use Rattle.std.proofs.lemmas.List.{length-map, get_or_past}
@@ -10,16 +10,16 @@ use Rattle.network.proofs.Lists.{any_from, any_some, any_none, has_in}
 use Rattle.rules.specs.Bve.{use_marks, uses_cleared, taken_out}
 use Rattle.rules.specs.Index.{Indexed}
 use Rattle.rules.specs.Lawful.{Lawful}
-use Rattle.rules.specs.Store.{Ref, live, Meaning, is_at, from, up_to, removed}
-use Rattle.rules.specs.Work.{Work, storing, taking_out, each, literals_of, cleared, clear, clear_all}
-use Rattle.rules.proofs.Clear.{clear_is, clear_all_is}
+use Rattle.rules.specs.Store.{Ref, live, Meaning, is_at, from, up_to}
+use Rattle.rules.specs.Work.{Work, storing, taking_out, each, cleared, clear, clear_all}
+use Rattle.rules.proofs.Clear.{clear_is}
 use Rattle.rules.proofs.Formed.{Formed, formed_parts, front_below, some_not_nil}
 use Rattle.rules.proofs.Index.{is_here, map_from, from_length}
 use Rattle.rules.proofs.Once.{is_at_of}
 use Rattle.rules.proofs.Places.{in_at}
 use Rattle.rules.proofs.TakenOut.{front_in, front_or_last}
 use Rattle.rules.proofs.Verdicts.{last_in}
-use Rattle.removing.specs.Outs.{is_of, names, used_in, gone_if_used, without_named, literals_after, uses_gone, named_out}
+use Rattle.removing.specs.Outs.{is_of, names, used_in, gone_if_used, without_named, uses_gone, named_out}
 
 -- ## Lists and steps in turn
 
@@ -82,6 +82,11 @@ unmarked_past (m ∷ marks) n e (suc j) = unmarked_past marks n (λ i. e (suc i)
 clear_idle : (l : ℕ) (marks : List Bool) (M : Meaning) → ((j : ℕ) → get_or marks j false ≡ false) → clear l marks M ≡ M
 unfolding clear
 clear_idle l marks M e = cleared_idle (length (M.own l)) l 0 (marks ++ replicate (length (M.own l) - length marks) false) M (unmarked_past marks (length (M.own l) - length marks) e)
+
+-- the work without n, step by step
+pub named_out_steps : (n : ℕ) (W : Work) (N P Q : Meaning) → N ≡ uses_gone n W.top W.store → P ≡ without_named n (2 * n) N → Q ≡ without_named n (2 * n + 1) P → storing (taking_out W n) Q ≡ named_out n W
+unfolding named_out
+named_out_steps n W N P Q e f g = ap (storing (taking_out W n)) (g ∙ ap (without_named n (2 * n + 1)) (f ∙ ap (without_named n (2 * n)) e))
 
 -- the clauses of own l, well formed and in their place
 abbrev Kept : ℕ → List (List ℕ) → Type 0

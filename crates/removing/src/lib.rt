@@ -9,4 +9,3 @@ mod clear;
 mod take;
 
 pub use take::{Debt, take_out};
-

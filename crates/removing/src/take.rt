@@ -6,11 +6,10 @@ ghost use Rattle.rules.specs.Index.{Indexed};
 ghost use Rattle.simplifier.specs.Shown.{work_of};
 ghost use Rattle.waiting.specs.Waits.{SameWait, Counting};
 
+use crate::clear::{clear_named, clear_uses};
 use simplifier::state::Simplifier;
 use store::store::Store;
 use waiting::Waiting;
-
-use crate::clear::{clear_named, clear_uses};
 
 // The resolvents of a node that was taken out are owed. Nothing drops a debt: only what enters the resolvents can end it.
 pub struct Debt {
@@ -19,7 +18,11 @@ pub struct Debt {
 
 // Takes a node out: every clause that names it goes, the counts are told of each, and the node is flagged. The answer is none, with
 // nothing changed, where there is no such node.
-pub fn take_out<S: Store>(s: &mut Simplifier<S>, waiting: &mut Waiting<'_>, node: u32) -> Option<Debt>
+pub fn take_out<S: Store>(
+    s: &mut Simplifier<S>,
+    waiting: &mut Waiting<'_>,
+    node: u32,
+) -> Option<Debt>
     ensures answer { MatchOption result ((s.old.top < node) × (s.new ≡ s.old) × (waiting.new ≡ waiting.old)) (λ d. (d.node ≡ node) × (node ≤ s.old.top)) }
     ensures makes { node ≤ s.old.top → (out : List ℕ) → work_of S.meaning s.new (node ∷ out) ≡ named_out node (work_of S.meaning s.old out) }
     ensures ruled { node ≤ s.old.top → Indexed (S.meaning s.old.store) → (out : List ℕ) → work_of S.meaning s.new (node ∷ out) ≡ taken_out node (work_of S.meaning s.old out) }

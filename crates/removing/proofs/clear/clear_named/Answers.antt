@@ -18,13 +18,13 @@ loop-k-preserved g c =
     let v = c.args.waiting.now in
     elim c.if-names.branch [
       | then-names u ↦
-        cleared_same g.S.Lists.meaning g.S.Lists.at c.args.node c.args.l (c.loop-k._k + 1) M v u.remove_at.new.self c.if-names.store u.clause_goes.new.self c.if-names.waiting u.flatten-at.result c.if-names.at u.store-is u.waiting-is u.at-is
-            (subst (Cleared g.S.Lists.meaning g.S.Lists.at c.args.node c.args.l (c.loop-k._k + 1) M v u.remove_at.new.self u.clause_goes.new.self) (sym u.flatten-at.ensures)
-            (clause_goes g.S.Lists.meaning g.S.Lists.at c.args.node c.args.l c.loop-k._k M v c.loop-k.waiting c.loop-k.store h i here w c.clause-clause.result.now is (sym c.names.ensures ∙ u.if-names.true) g.met.S.Lists.lawful u.remove_at.new.self u.clause_goes.new.self
-            (u.remove_at.ensures.makes c.args.l i here.0) u.clause_goes.ensures.waits u.clause_goes.ensures.counts u.remove_at.result (u.remove_at.ensures.then c.args.l i here.0)))
+          cleared_same g.S.Lists.meaning g.S.Lists.at c.args.node c.args.l (c.loop-k._k + 1) M v u.remove_at.new.self c.if-names.store u.clause_goes.new.self c.if-names.waiting u.flatten-at.result c.if-names.at u.store-is u.waiting-is u.at-is
+          (subst (Cleared g.S.Lists.meaning g.S.Lists.at c.args.node c.args.l (c.loop-k._k + 1) M v u.remove_at.new.self u.clause_goes.new.self) (sym u.flatten-at.ensures)
+          (clause_goes g.S.Lists.meaning g.S.Lists.at c.args.node c.args.l c.loop-k._k M v c.loop-k.waiting c.loop-k.store h i here w c.clause-clause.result.now is (sym c.names.ensures ∙ u.if-names.true) g.met.S.Lists.lawful u.remove_at.new.self u.clause_goes.new.self
+          (u.remove_at.ensures.makes c.args.l i here.0) u.clause_goes.ensures.waits u.clause_goes.ensures.counts u.remove_at.result (u.remove_at.ensures.then c.args.l i here.0)))
       | else-names u ↦
-        cleared_same g.S.Lists.meaning g.S.Lists.at c.args.node c.args.l (c.loop-k._k + 1) M v c.loop-k.store c.if-names.store c.loop-k.waiting c.if-names.waiting u.next-at.result c.if-names.at u.store-is u.waiting-is u.at-is
-            (clause_stays g.S.Lists.meaning g.S.Lists.at c.args.node c.args.l c.loop-k._k M v c.loop-k.waiting c.loop-k.store h i here w c.clause-clause.result.now is (sym c.names.ensures ∙ u.if-names.false) u.next-at.result (u.next-at.ensures c.args.l i here.0))
+          cleared_same g.S.Lists.meaning g.S.Lists.at c.args.node c.args.l (c.loop-k._k + 1) M v c.loop-k.store c.if-names.store c.loop-k.waiting c.if-names.waiting u.next-at.result c.if-names.at u.store-is u.waiting-is u.at-is
+          (clause_stays g.S.Lists.meaning g.S.Lists.at c.args.node c.args.l c.loop-k._k M v c.loop-k.waiting c.loop-k.store h i here w c.clause-clause.result.now is (sym c.names.ensures ∙ u.if-names.false) u.next-at.result (u.next-at.ensures c.args.l i here.0))
     ]
 
 pub returns-in_default : goal.returns-in_default
