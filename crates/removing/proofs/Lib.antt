@@ -2,3 +2,4 @@ pub mod Clears
 pub mod Ruled
 pub mod Flags
 pub mod Sweeps
+pub mod Settles

@@ -48,18 +48,18 @@ from_parts (suc m) k a =
     let y : suc a + m ≡ a + suc m = omega arith in
     ap (from a) x ∙ ap (λ ns. a ∷ ns) (from_parts m k (suc a) ∙ ap (λ b. from (suc a) m ++ from b k) y)
 
-module _ {Y : Type 0} (f : ℕ → Y → Y) where
-  pub each_parts : (xs ys : List ℕ) (y : Y) → each f (xs ++ ys) y ≡ each f ys (each f xs y)
-  each_parts [] ys y = refl
-  each_parts (x ∷ xs) ys y = each_parts xs ys (f x y)
+pub each_parts : {X Y : Type 0} (f : X → Y → Y) (xs ys : List X) (y : Y) → each f (xs ++ ys) y ≡ each f ys (each f xs y)
+each_parts f [] ys y = refl
+each_parts f (x ∷ xs) ys y = each_parts f xs ys (f x y)
 
+module _ {Y : Type 0} (f : ℕ → Y → Y) where
   each_idle : (m a : ℕ) (y : Y) → ((l : ℕ) → l < a + m → f l y ≡ y) → each f (from a m) y ≡ y
   each_idle zero a y e = refl
   each_idle (suc m) a y e = ap (each f (from (suc a) m)) (e a (omega arith)) ∙ each_idle m (suc a) y (λ l h. e l (omega arith))
 
   -- one more
   pub each_more : (m a : ℕ) (y : Y) → each f (from a (m + 1)) y ≡ f (a + m) (each f (from a m) y)
-  each_more m a y = ap (λ ns. each f ns y) (from_parts m 1 a) ∙ each_parts (from a m) (from (a + m) 1) y
+  each_more m a y = ap (λ ns. each f ns y) (from_parts m 1 a) ∙ each_parts f (from a m) (from (a + m) 1) y
 
 -- ## Clearing
 

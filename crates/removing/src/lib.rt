@@ -6,6 +6,7 @@
 #![tactic(auto)]
 
 mod clear;
-mod take;
+mod debt;
+mod enter;
 
-pub use take::{Debt, take_out};
+pub use debt::{Debt, settle, take_out};

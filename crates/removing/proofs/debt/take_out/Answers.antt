@@ -2,7 +2,7 @@ use Rattle.std.proofs.Common.{◌∙◌}
 use Rattle.waiting.proofs.Waits.{same_trans}
 use Rattle.simplifier.specs.Shown.{work_of}
 use Rattle.removing.proofs.Ruled.{named_out_steps, named_taken_out}
-use Rattle.removing.proofs.take.take_out.Goals as goal
+use Rattle.removing.proofs.debt.take_out.Goals as goal
 
 pub returns-clause-makes : goal.returns-clause-makes
 returns-clause-makes g c le out =

@@ -1,12 +1,15 @@
 // The step: a node is taken out, and its resolvents are owed.
 ghost use Rattle.std.specs.Prelude.{◌≡◌, ℕ, ◌<◌, ◌≤◌, true, List, ◌∷◌, slice_set, MatchOption};
 ghost use Rattle.removing.specs.Outs.{named_out};
+ghost use Rattle.removing.specs.Owed.{owed, Settled};
 ghost use Rattle.rules.specs.Bve.{taken_out};
 ghost use Rattle.rules.specs.Index.{Indexed};
 ghost use Rattle.simplifier.specs.Shown.{work_of};
 ghost use Rattle.waiting.specs.Waits.{SameWait, Counting};
 
 use crate::clear::{clear_named, clear_uses};
+use crate::enter::{enter_counted, owed_clause};
+use lemmas::Lemmas;
 use simplifier::state::Simplifier;
 use store::store::Store;
 use waiting::Waiting;
@@ -40,4 +43,24 @@ pub fn take_out<S: Store>(
     clear_named(&mut s.store, waiting, 2 * node + 1, node);
     s.taken_out[node as usize] = true;
     Some(Debt { node })
+}
+
+// Enters what is left of the resolvents of a node that was taken out: the clauses that the first `count` numbers of the line name. The
+// counts are told of each. This settles the debt.
+pub fn settle<S: Store>(
+    debt: Debt,
+    s: &mut Simplifier<S>,
+    waiting: &mut Waiting<'_>,
+    words: &Lemmas<'_>,
+    count: usize,
+)
+    ensures { Settled S.meaning (owed count words.now) s.old s.new waiting.old waiting.new }
+{
+    let Debt { node: _node } = debt;
+    let line = &words.order[..count.min(words.order.len())];
+    for number in line {
+        if let Some(clause) = owed_clause(words, *number) {
+            enter_counted(s, waiting, clause);
+        }
+    }
 }
