@@ -1,6 +1,6 @@
 -- The first entry of a heap of nodes is the node with the fewest uses, of those the lowest. Assumes nothing.
-use Rattle.std.proofs.Common.{◌≡◌, ℕ, zero, suc, ◌<◌, true, false, not, eqb, ltb, ◌↔◌, ◌⊎◌, List, [], ◌∷◌, Some, None, Option, sym, refl, ap, subst, inl, inr, ⊎_elim, arith}
-use Rattle.std.specs.Prelude.{MatchOption}
+use Rattle.std.proofs.Common.{◌≡◌, ℕ, zero, suc, ◌<◌, true, false, not, eqb, ltb, ◌↔◌, ◌⊎◌, List, [], ◌∷◌, Some, None, Option, length, sym, refl, ap, subst, inl, inr, ⊎_elim, arith}
+use Rattle.std.specs.Prelude.{MatchOption, ⊤}
 use Rattle.std.specs.List.{ContainsAt as Has}
 use Rattle.std.proofs.ByRecursion.{has_shuffled, all-has}
 use Rattle.std.proofs.lemmas.Bool.{both_ways, cond_both}
@@ -11,7 +11,10 @@ use Rattle.network.specs.Clauses.{Rising}
 use Rattle.network.proofs.Lists.{in_kept, kept_in}
 use Rattle.queue.specs.Keys.{by_key, by_key_orders}
 use Rattle.queue.specs.Heaps.{Heap, Popped}
+use Rattle.queue.specs.Orders.{Test}
+use Rattle.queue.specs.Places.{Placed}
 use Rattle.queue.specs.Waiting.{waiting}
+use Rattle.queue.proofs.Index.{place_of}
 use Rattle.rules.specs.Bve.{least, but}
 use Rattle.waiting.specs.Waits.{WaitAll, Next}
 use Rattle.waiting.specs.declared.waiting.Waiting.{Waiting}
@@ -84,3 +87,8 @@ pub next_is : (f : ℕ → ℕ) (w : Waiting) (xs : List ℕ) (Q : Type 0) (r : 
     → (ns : List ℕ) → Rising ns → ((n : ℕ) → Has xs n ↔ In n ns) → Next f ns r w
 next_is f w xs Q None heap p ns r all = next_none f w xs ns p.0 all
 next_is f w xs Q (Some e) heap p ns r all = next_some f w xs e heap p ns r all
+
+-- what a pop hands out has its place
+pub popped_below : (ahead : Test) (xs ys ps : List ℕ) (Q : Type 0) (r : Option ℕ) → MatchOption r ((xs ≡ []) × Q) (λ e. Popped ahead xs e ys) → Placed xs ps → MatchOption r ⊤ (λ e. e < length ps)
+popped_below ahead xs ys ps Q None p h = tt
+popped_below ahead xs ys ps Q (Some e) p h = (place_of xs ps e h (has_shuffled (e ∷ ys) xs e (IsPermutation-sym xs (e ∷ ys) p.shuffled) (has_first e ys))).0

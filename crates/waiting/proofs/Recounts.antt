@@ -2,7 +2,7 @@
 use Rattle.std.proofs.Common.{◌≡◌, ℕ, suc, ◌+◌, ◌-◌, ◌<◌, ◌≤◌, ◌⊎◌, List, [], ◌∷◌, length, get_or, take, set, sym, refl, ap, ◌∙◌, inl, inr, ⊎_elim, arith}
 use Rattle.std.proofs.lemmas.Bool.{cases_eq}
 use Rattle.std.proofs.lemmas.Bool.Decides.{nat_tests}
-use Rattle.std.proofs.lemmas.List.{take_more, take_all, length-take-le, get_or-set_same, get_or-set_other}
+use Rattle.std.proofs.lemmas.List.{take_more, take_all, get_or-set_same, get_or-set_other}
 use Rattle.network.specs.Clauses.{front}
 use Rattle.rules.specs.Store.{how_many}
 use Rattle.rules.proofs.HowMany.{count_append}
@@ -50,11 +50,6 @@ pub times_none : (k : ℕ) → times k [] ≡ 0
 unfolding how_many
 times_none k = refl
 
--- a clause of no literal has none but its last
-pub times_short : (k : ℕ) (C : List ℕ) → length C < 1 → times k (front C) ≡ 0
-times_short k [] h = times_none k
-times_short k (x ∷ C) h = absurd (omega arith)
-
--- all of the literals but the last
-pub times_whole : (k i : ℕ) (C : List ℕ) → length C - 1 ≤ i → times k (take i (take (length C - 1) C)) ≡ times k (front C)
-times_whole k i C h = ap (times k) (take_all i (take (length C - 1) C) (omega (arith, length-take-le (length C - 1) C (omega arith))) ∙ front_take C)
+-- all of a list
+pub times_whole : (k i : ℕ) (xs ys : List ℕ) → length xs ≤ i → xs ≡ ys → times k (take i xs) ≡ times k ys
+times_whole k i xs ys h e = ap (times k) (take_all i xs h ∙ e)

@@ -7,24 +7,32 @@ ghost use Rattle.queue.specs.Waiting.{waiting, Rearranged};
 ghost use Rattle.waiting.specs.Waits.{counts_of, both_counts, SameWait, times};
 
 use crate::waiting::Waiting;
-use queue::{Keyed, Queue, WaitingNodes};
+use queue::{Queue, WaitingNodes};
+
+// The literals of a clause but the last.
+fn but_last(clause: &[u32]) -> &[u32]
+    ensures { result.now ≡ front clause.now }
+{
+    match clause {
+        [front @ .., _] => front,
+        [] => &[],
+    }
+}
 
 impl Waiting<'_> {
     // Both counts of a node. A count past the end is 0.
     pub fn sum(&self, node: u32) -> u64
         ensures { result ≡ both_counts self.now node }
     {
-        WaitingNodes {
-            counts: self.counts,
-        }
-        .key(node)
+        let positive = 2 * node as usize;
+        self.count(positive) as u64 + self.count(positive + 1) as u64
     }
 
     // The count of a literal, 0 past the end.
-    fn count(&self, literal: u32) -> u32
+    fn count(&self, literal: usize) -> u32
         ensures { result ≡ counts_of self.now literal }
     {
-        self.counts.get(literal as usize).copied().unwrap_or(0)
+        self.counts.get(literal).copied().unwrap_or(0)
     }
 
     // Tells that a clause goes: the count of each of its literals but the last is one less, if it is not 0.
@@ -32,11 +40,9 @@ impl Waiting<'_> {
         ensures counts { (l : ℕ) → l < 2048 → counts_of self.new l ≡ counts_of self.old l - times l (front clause.now) }
         ensures waits { SameWait self.old self.new }
     {
-        let [front @ .., _] = clause else {
-            return;
-        };
+        let front = but_last(clause);
         for literal in front {
-            self.recount(*literal, self.count(*literal).saturating_sub(1));
+            self.recount(*literal, self.count(*literal as usize).saturating_sub(1));
         }
     }
 
@@ -45,11 +51,9 @@ impl Waiting<'_> {
         ensures counts { (l : ℕ) → l < 2048 → counts_of self.new l ≡ min (counts_of self.old l + times l (front clause.now)) (2 ^ 32 - 1) }
         ensures waits { SameWait self.old self.new }
     {
-        let [front @ .., _] = clause else {
-            return;
-        };
+        let front = but_last(clause);
         for literal in front {
-            self.recount(*literal, self.count(*literal).saturating_add(1));
+            self.recount(*literal, self.count(*literal as usize).saturating_add(1));
         }
     }
 
