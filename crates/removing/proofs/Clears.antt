@@ -135,15 +135,15 @@ module _ {S H : Type 0} (meaning : S → Meaning) (at : S → H → ℕ → ℕ 
     pub cleared_same : (s s' : S) (w w' : Waiting) (o o' : Option H) → s' ≡ s → w' ≡ w → o' ≡ o → Cleared s w o → Cleared s' w' o'
     cleared_same s s' w w' o o' a b e c = subst (λ t. Cleared t w' o') (sym a) (subst (λ t. Cleared s t o') (sym b) (subst (λ t. Cleared s w t) (sym e) c))
 
-  module _ (n l k : ℕ) (M : Meaning) (v w : Waiting) (s : S) (h : H) (i : ℕ) (here : Stands s l i h) (g : Going n l i k M (meaning s) v w) (C : List ℕ) (is : C ≡ get_or ((meaning s).own l) i []) where
-    pub clause_stays : names n C ≡ false → (o : Option H) → Said o (length ((meaning s).own l) ≡ i + 1) (Stands s l (i + 1)) → Cleared n l (k + 1) M v s w o
-    clause_stays t o q = (i + 1, reached s l (i + 1) o q, going_stays n l i k M (meaning s) v w g here.1 (ap (names n) (sym is) ∙ t))
+  module _ (n l k : ℕ) (M : Meaning) (v w : Waiting) (s : S) (h : H) (i : ℕ) (here : Stands s l i h) (g : Going n l i k M (meaning s) v w) (C : List ℕ) (is : C ≡ get_or ((meaning s).own l) i []) (b : Bool) (told : b ≡ names n C) where
+    pub clause_stays : b ≡ false → (o : Option H) → Said o (length ((meaning s).own l) ≡ i + 1) (Stands s l (i + 1)) → Cleared n l (k + 1) M v s w o
+    clause_stays t o q = (i + 1, reached s l (i + 1) o q, going_stays n l i k M (meaning s) v w g here.1 (ap (names n) (sym is) ∙ sym told ∙ t))
 
-    pub clause_goes : names n C ≡ true → ((t : S) → Lawful (meaning t)) → (s' : S) (x : Waiting) → meaning s' ≡ removed l i (meaning s) → SameWait w x
+    pub clause_goes : b ≡ true → ((t : S) → Lawful (meaning t)) → (s' : S) (x : Waiting) → meaning s' ≡ removed l i (meaning s) → SameWait w x
         → ((j : ℕ) → j < 2048 → counts_of x j ≡ counts_of w j - times j (front C)) → (r : Option (Option H)) → Said r ⊥ (λ o. Said o (length ((meaning s').own l) ≡ i) (Stands s' l i)) → Cleared n l (k + 1) M v s' x (option_flatten r)
     clause_goes t lawful s' x e same counts r q = (
       i,
       reached s' l i (option_flatten r) (flattened r (length ((meaning s').own l) ≡ i) (Stands s' l i) q),
       subst (λ N. Going n l i (k + 1) M N v x) (sym e)
-          (going_goes n l i k M (meaning s) v w g here.1 (ap (names n) (sym is) ∙ t) (lawful s) (subst Lawful e (lawful s')) x same (subst (λ D. (j : ℕ) → j < 2048 → counts_of x j ≡ counts_of w j - times j (front D)) is counts)),
+          (going_goes n l i k M (meaning s) v w g here.1 (ap (names n) (sym is) ∙ sym told ∙ t) (lawful s) (subst Lawful e (lawful s')) x same (subst (λ D. (j : ℕ) → j < 2048 → counts_of x j ≡ counts_of w j - times j (front D)) is counts)),
     )

@@ -1,8 +1,11 @@
 -- Clauses entered one after another, with the counts told. Assumes nothing.
-use Rattle.std.proofs.Common.{◌≡◌, ℕ, ◌+◌, ◌-◌, ◌^◌, ◌<◌, ◌≤◌, Bool, true, false, ltb, min, List, [], ◌∷◌, ◌++◌, map, filter, length, get_or, take, sym, refl, ap, ◌∙◌, subst}
-use Rattle.std.proofs.lemmas.Bool.{and_parts, cond-true, cond-false, cond_both}
-use Rattle.std.proofs.lemmas.List.{take_more, append-nil, map-append}
+use Rattle.std.proofs.Common.{◌≡◌, ℕ, suc, ◌+◌, ◌-◌, ◌^◌, ◌<◌, ◌≤◌, Bool, true, false, ltb, min, List, [], ◌∷◌, ◌++◌, map, filter, length, get_or, take, sym, refl, ap, ◌∙◌, subst, arith}
+use Rattle.std.proofs.lemmas.Bool.{and_from, and_parts, lt-ltb, le-leb, cond-true, cond-false, cond_both}
+use Rattle.std.proofs.lemmas.List.{length-take-le, get_or-take, take_more, append-nil, map-append}
 use Rattle.std.proofs.lemmas.List.Elements.{filter-append}
+use Rattle.lemmas.specs.Lines.{clauses_of, Lined}
+use Rattle.lemmas.specs.Words.{named}
+use Rattle.lemmas.specs.declared.Lemmas.{Lemmas}
 use Rattle.network.specs.Clauses.{front, well_formed}
 use Rattle.rules.specs.Index.{Indexed}
 use Rattle.rules.specs.Lawful.{Lawful}
@@ -15,7 +18,7 @@ use Rattle.waiting.specs.Waits.{counts_of, times, Counting}
 use Rattle.waiting.specs.declared.waiting.Waiting.{Waiting}
 use Rattle.waiting.proofs.Waits.{same_trans}
 use Rattle.waiting.proofs.Kept.{comes_counting}
-use Rattle.removing.specs.Owed.{Settled}
+use Rattle.removing.specs.Owed.{stands, owed, Settled}
 use Rattle.removing.proofs.Ruled.{each_parts}
 
 -- ## One clause
@@ -62,3 +65,16 @@ module _ {X : Type 0} (f : ℕ → X) (p : ℕ → Bool) (xs : List ℕ) where
 
   pub line_passed : (i : ℕ) → i < length xs → p (get_or xs i 0) ≡ false → map f (filter p (take (i + 1) xs)) ≡ map f (filter p (take i xs))
   line_passed i h t = ap (map f) (ap (filter p) (take_more xs i 0 h) ∙ filter-append p (take i xs) (get_or xs i 0 ∷ []) ∙ ap (λ ys. filter p (take i xs) ++ ys) (cond-false (p (get_or xs i 0)) (get_or xs i 0 ∷ []) [] t) ∙ append-nil (filter p (take i xs)))
+
+-- a test that all pass keeps all
+filter_all : (p : ℕ → Bool) (xs : List ℕ) → ((i : ℕ) → i < length xs → p (get_or xs i 0) ≡ true) → filter p xs ≡ xs
+filter_all p [] h = refl
+filter_all p (x ∷ xs) h = cond-true (p x) (x ∷ filter p xs) (filter p xs) (h 0 (omega arith)) ∙ ap (λ ys. x ∷ ys) (filter_all p xs (λ i l. h (suc i) (omega arith)))
+
+-- where each number of the line names a clause that has its words, all that it names are owed
+pub owed_lined : (n : ℕ) (w : Lemmas) → Lined (clauses_of w) w.order.now n → owed n w ≡ named (clauses_of w) (take n w.order.now)
+owed_lined n w d = ap (named (clauses_of w)) (filter_all (stands w) (take n w.order.now) (λ i h.
+    let long = length-take-le n w.order.now d.within in
+    let in' : i < n = omega arith in
+    let s = d.stands i in' in
+    subst (λ k. stands w k ≡ true) (sym (get_or-take n w.order.now i 0 in')) (and_from _ _ (and_from _ _ (lt-ltb _ _ s.counted) (le-leb _ _ s.room)) (le-leb _ _ s.short))))

@@ -1,5 +1,6 @@
-use Rattle.std.proofs.Common.{◌+◌, sym, subst, ◌∙◌, arith}
-use Rattle.removing.proofs.Clears.{Reached, Cleared, going_starts, going_ends, reached, cleared_same, clause_stays, clause_goes}
+use Rattle.std.specs.Option.{option_flatten}
+use Rattle.std.proofs.Common.{◌≡◌, ◌+◌, [], get_or, subst, ◌∙◌, arith}
+use Rattle.removing.proofs.Clears.{Reached, going_starts, going_ends, reached, cleared_same, clause_stays, clause_goes}
 use Rattle.removing.proofs.clear.clear_named.Goals as goal
 use Rattle.removing.proofs.clear.clear_named.Goals.{then-names, else-names}
 
@@ -10,21 +11,29 @@ loop-k-init g c =
 
 pub loop-k-preserved : goal.loop-k-preserved
 loop-k-preserved g c =
+    let m = g.S.Lists.meaning in
+    let at = g.S.Lists.at in
+    let n = c.args.node in
+    let l = c.args.l in
+    let M = m c.args.store.now in
+    let v = c.args.waiting.now in
+    let s = c.loop-k.store in
+    let k = c.loop-k._k in
     let (i, r, w) = c.loop-k.invariant in
     let h = c.in-Some.h in
-    let here = subst (Reached g.S.Lists.meaning g.S.Lists.at c.loop-k.store c.args.l i) c.in-Some.is r in
-    let is = c.clause-clause.ensures c.args.l i here.0 in
-    let M = g.S.Lists.meaning c.args.store.now in
-    let v = c.args.waiting.now in
+    let C = c.clause-clause.result.now in
+    let here = subst (Reached m at s l i) c.in-Some.is r in
+    let is : C ≡ get_or ((m s).own l) i [] = c.clause-clause.ensures l i here.0 in
     elim c.if-names.branch [
       | then-names u ↦
-          cleared_same g.S.Lists.meaning g.S.Lists.at c.args.node c.args.l (c.loop-k._k + 1) M v u.remove_at.new.self c.if-names.store u.clause_goes.new.self c.if-names.waiting u.flatten-at.result c.if-names.at u.store-is u.waiting-is u.at-is
-          (subst (Cleared g.S.Lists.meaning g.S.Lists.at c.args.node c.args.l (c.loop-k._k + 1) M v u.remove_at.new.self u.clause_goes.new.self) (sym u.flatten-at.ensures)
-          (clause_goes g.S.Lists.meaning g.S.Lists.at c.args.node c.args.l c.loop-k._k M v c.loop-k.waiting c.loop-k.store h i here w c.clause-clause.result.now is (sym c.names.ensures ∙ u.if-names.true) g.met.S.Lists.lawful u.remove_at.new.self u.clause_goes.new.self
-          (u.remove_at.ensures.makes c.args.l i here.0) u.clause_goes.ensures.waits u.clause_goes.ensures.counts u.remove_at.result (u.remove_at.ensures.then c.args.l i here.0)))
+          let t = u.remove_at in
+          let x = u.clause_goes in
+          let next : c.if-names.at ≡ option_flatten t.result = u.at-is ∙ u.flatten-at.ensures in
+          cleared_same m at n l (k + 1) M v t.new.self c.if-names.store x.new.self c.if-names.waiting (option_flatten t.result) c.if-names.at u.store-is u.waiting-is next
+          (clause_goes m at n l k M v c.loop-k.waiting s h i here w C is c.names.result c.names.ensures u.if-names.true g.met.S.Lists.lawful t.new.self x.new.self (t.ensures.makes l i here.0) x.ensures.waits x.ensures.counts t.result (t.ensures.then l i here.0))
       | else-names u ↦
-          cleared_same g.S.Lists.meaning g.S.Lists.at c.args.node c.args.l (c.loop-k._k + 1) M v c.loop-k.store c.if-names.store c.loop-k.waiting c.if-names.waiting u.next-at.result c.if-names.at u.store-is u.waiting-is u.at-is
-          (clause_stays g.S.Lists.meaning g.S.Lists.at c.args.node c.args.l c.loop-k._k M v c.loop-k.waiting c.loop-k.store h i here w c.clause-clause.result.now is (sym c.names.ensures ∙ u.if-names.false) u.next-at.result (u.next-at.ensures c.args.l i here.0))
+          cleared_same m at n l (k + 1) M v s c.if-names.store c.loop-k.waiting c.if-names.waiting u.next-at.result c.if-names.at u.store-is u.waiting-is u.at-is
+          (clause_stays m at n l k M v c.loop-k.waiting s h i here w C is c.names.result c.names.ensures u.if-names.false u.next-at.result (u.next-at.ensures l i here.0))
     ]
 
 pub returns-in_default : goal.returns-in_default
