@@ -1,0 +1,5 @@
+pub mod Clears
+pub mod Ruled
+pub mod Flags
+pub mod Sweeps
+pub mod Settles

@@ -1,0 +1,5 @@
+pub mod Waits
+pub mod Recounts
+pub mod Nexts
+pub mod Beginnings
+pub mod Kept
