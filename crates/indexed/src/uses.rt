@@ -1,11 +1,11 @@
 ghost use Rattle.std.specs.Prelude.{◌≡◌, ◌<◌};
 ghost use Rattle.indexed.specs.Links.{Bare, Sound};
 
-use slotted::index::Index;
 use crate::linked::Linked;
 use crate::links::{LITERALS, empty_ring, is_fair, put_in_all, slot_of, take_out_all};
 use owned::owned::Owned;
 use rings::after;
+use slotted::index::Index;
 
 // A live clause of an indexed store, by its slot.
 #[derive(Clone, Copy)]

@@ -16,6 +16,7 @@ pub mod changes;
 mod lists;
 pub mod owned;
 pub mod questions;
+pub mod sizes;
 mod words;
 
 // What holds of all own lists, whatever was done to them.

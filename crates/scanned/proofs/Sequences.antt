@@ -21,9 +21,9 @@ use Rattle.scanned.specs.Sequence.{Sound, Stands, in_range, joined_in, listed_at
 -- the nodes behind one are nodes
 pub behind_low : (room : ℕ) (ws : List ℕ) → Sound room ws → (n : ℕ) → n ≤ room → AllByRecursion (λ m. m < room + 1) (nodes_behind room ws n)
 behind_low room ws s n h = elim (cases_lt 0 room) [
-    | inl r ↦ rw (behind_is room ws n r) (ring_within 1 (room + 1) ws (s r).held n (omega arith))
-    | inr z ↦ rw (behind_none room ws n z) tt
-  ]
+  | inl r ↦ rw (behind_is room ws n r) (ring_within 1 (room + 1) ws (s r).held n (omega arith))
+  | inr z ↦ rw (behind_none room ws n z) tt
+]
 
 -- a step of a walk in search of slots that are listed at k
 module _ (L : Listing) (k n : ℕ) (ms ns : List ℕ) (e : ms ≡ n ∷ ns) where
@@ -70,13 +70,13 @@ found_first p y ys q = record {
 find_place : (p : ℕ → Bool) (xs : List ℕ) (j : ℕ) → j < length (filter p xs) → Found p xs j
 find_place p [] j h = absurd (omega arith)
 find_place p (y ∷ ys) zero h = elim (cases_Bool (p y)) [
-    | inr f ↦ let q = cond-false (p y) (y ∷ filter p ys) (filter p ys) f in found_on p y ys 0 q (find_place p ys 0 (subst (λ (zs : List ℕ). 0 < length zs) q h))
-    | inl t ↦ found_first p y ys (cond-true (p y) (y ∷ filter p ys) (filter p ys) t)
-  ]
+  | inr f ↦ let q = cond-false (p y) (y ∷ filter p ys) (filter p ys) f in found_on p y ys 0 q (find_place p ys 0 (subst (λ (zs : List ℕ). 0 < length zs) q h))
+  | inl t ↦ found_first p y ys (cond-true (p y) (y ∷ filter p ys) (filter p ys) t)
+]
 find_place p (y ∷ ys) (suc j) h = elim (cases_Bool (p y)) [
-    | inr f ↦ let q = cond-false (p y) (y ∷ filter p ys) (filter p ys) f in found_on p y ys (suc j) q (find_place p ys (suc j) (subst (λ (zs : List ℕ). suc j < length zs) q h))
-    | inl t ↦ let q = cond-true (p y) (y ∷ filter p ys) (filter p ys) t in found_next p y ys j q (find_place p ys j (let g = subst (λ (zs : List ℕ). suc j < length zs) q h in omega arith))
-  ]
+  | inr f ↦ let q = cond-false (p y) (y ∷ filter p ys) (filter p ys) f in found_on p y ys (suc j) q (find_place p ys (suc j) (subst (λ (zs : List ℕ). suc j < length zs) q h))
+  | inl t ↦ let q = cond-true (p y) (y ∷ filter p ys) (filter p ys) t in found_next p y ys j q (find_place p ys j (let g = subst (λ (zs : List ℕ). suc j < length zs) q h in omega arith))
+]
 
 map_place : (ns : List ℕ) (i : ℕ) → i < length (map slot_of ns) → (i < length ns) × (get_or (map slot_of ns) i 0 ≡ slot_of (get_or ns i 0)) × (drop (suc i) (map slot_of ns) ≡ map slot_of (drop (suc i) ns))
 map_place [] i h = absurd (omega arith)
@@ -187,9 +187,9 @@ module _ (room : ℕ) (ws : List ℕ) (s : Sound room ws) (r : 0 < room) where
   module _ (n : ℕ) (e : Some n ≡ slot_after 1 ws 0) (vs : List ℕ) (q : vs ≡ cut_out ws n) where
     at_first : (0 < length R) × (get_or R 0 0 ≡ n)
     at_first = elim (cases_lt 0 (length R)) [
-        | inl h ↦ (h, sym (cond_some true n (get_or R 0 0) (e ∙ first_is ∙ cond-true (ltb 0 (length R)) (Some (get_or R 0 0)) None (lt-ltb 0 (length R) h))).1)
-        | inr z ↦ absurd (none-some n (sym (e ∙ first_is ∙ cond-false (ltb 0 (length R)) (Some (get_or R 0 0)) None (le-ltb 0 (length R) z))))
-      ]
+      | inl h ↦ (h, sym (cond_some true n (get_or R 0 0) (e ∙ first_is ∙ cond-true (ltb 0 (length R)) (Some (get_or R 0 0)) None (lt-ltb 0 (length R) h))).1)
+      | inr z ↦ absurd (none-some n (sym (e ∙ first_is ∙ cond-false (ltb 0 (length R)) (Some (get_or R 0 0)) None (le-ltb 0 (length R) z))))
+    ]
 
     in_nodes : (1 ≤ n) × (n < room + 1)
     in_nodes =

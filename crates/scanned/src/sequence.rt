@@ -4,8 +4,8 @@ ghost use Rattle.scanned.specs.Firsts.{first_of};
 ghost use Rattle.owned.specs.Lists.{listed};
 ghost use Rattle.scanned.specs.Sequence.{in_range, listed_at, nodes_behind, sequence, slot_of};
 
-use owned::owned::Owned;
 use crate::searched::Searched;
+use owned::owned::Owned;
 use rings::{Slots, ring, scatter};
 
 // The node of the first slot is 1, and its number is that of the own lists.

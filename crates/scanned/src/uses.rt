@@ -1,11 +1,11 @@
 ghost use Rattle.std.specs.Prelude.{◌≡◌, ℕ, [], length};
 ghost use Rattle.scanned.specs.Sequence.{Sound, nodes_behind, sequence};
 
-use slotted::index::Index;
-use owned::owned::Owned;
 use crate::searched::Searched;
 use crate::sequence::BEFORE;
+use owned::owned::Owned;
 use rings::{after, link, unlink};
+use slotted::index::Index;
 
 // A live clause of a scanned store, by its slot.
 #[derive(Clone, Copy)]

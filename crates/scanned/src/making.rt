@@ -1,0 +1,35 @@
+ghost use Rattle.std.specs.Prelude.{◌≡◌, length, if◌then◌else◌};
+ghost use Rattle.scanned.specs.Sequence.{used_in};
+ghost use Rattle.slotted.specs.Tied.{blank, meaning_of};
+ghost use Rattle.store.specs.Checks.{checked, sized};
+
+use crate::searched::Searched;
+use image::fault::Fault;
+use owned::sizes::{link_words, text_words};
+use slotted::index::Index;
+use slotted::slotted::Slotted;
+use store::check::check_words;
+
+// The scanned store: clauses in slots, uses found by search.
+pub type Scanned<'a> = Slotted<'a, Searched<'a>>;
+
+// Whether a scanned store can have this room in so many words.
+pub fn check(room: u32, words: usize) -> Result<(), Fault>
+    ensures { result ≡ checked 48 4096 room words }
+{
+    check_words(Searched::EACH, Searched::FIXED, room, words)
+}
+
+// A scanned store in these words. Making a store refuses nothing (docs/RULES.md), so where the check would refuse, it has no room.
+pub fn scanned(words: &mut [u32], room: u32) -> Scanned<'_>
+    ensures { meaning_of result.own result.indexed (used_in result.index.room result.index.words.now) ≡ blank (if sized 48 4096 room (length words.old) then room else 0) }
+{
+    let room = if check(room, words.len()).is_ok() {
+        room
+    } else {
+        0
+    };
+    let (links, rest) = words.split_at_mut(link_words(room));
+    let (texts, rest) = rest.split_at_mut(text_words(room));
+    Slotted::new(links, texts, Searched::new(rest, room))
+}
