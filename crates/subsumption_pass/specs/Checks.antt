@@ -20,7 +20,7 @@ pub record SameShape (M N : Meaning) : Type 0 where
   pub uses : (x : ℕ) → N.uses x ≡ M.uses x
   pub lengths : (x : ℕ) → length (N.own x) ≡ length (M.own x)
 
--- refs that a meaning gives, so that those of the meaning after a change are the refs of the meaning before it, as the change left them
+-- refs read off a meaning that keep up with it: those read off after a change are those from before as the change left them, but for dead ones
 pub record Follows (Q : Meaning → List Ref) : Type 0 where
   pub stays : (M N : Meaning) → SameShape M N → Q N ≡ Q M
   pub retires : (k j : ℕ) (M N : Meaning) → j < length (M.own k) → SameShape (retired k j M) N → alive (map (after_retired k j) (Q M)) ≡ alive (Q N)

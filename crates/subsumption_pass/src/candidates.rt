@@ -39,7 +39,7 @@ fn against_use<S: Store>(
     }
 }
 
-// A clause against the uses of x. Uses keep their places, and those of clauses that are retired name none.
+// A clause against the uses of x, as they were indexed: uses keep their places, and that of a clause that is retired names none.
 fn against_uses<S: Store>(
     s: &mut S,
     around: &mut [u32],
@@ -62,7 +62,7 @@ fn against_uses<S: Store>(
     Ok(())
 }
 
-// A clause against the own clauses of x.
+// A clause against the own clauses of x: those that are left, since the order is kept and none is entered.
 fn against_own<S: Store>(
     s: &mut S,
     around: &mut [u32],
