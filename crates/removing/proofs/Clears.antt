@@ -5,17 +5,17 @@ use Rattle.std.specs.List.{swap_remove}
 use Rattle.std.proofs.lemmas.Bool.{lt-ltb, cond-true, cond-false}
 use Rattle.std.proofs.Math.ListN.{get_or-map}
 use Rattle.std.proofs.lemmas.List.{take-map, map-set, length-map, append-nil}
-use Rattle.rules.specs.Index.{Indexed}
 use Rattle.rules.specs.Lawful.{Lawful}
 use Rattle.rules.specs.Store.{Meaning, removed}
 use Rattle.rules.specs.Work.{cleared, clear}
 use Rattle.rules.proofs.Index.{removed_own, removed_length, removed_indexed}
 use Rattle.network.specs.Clauses.{front}
-use Rattle.waiting.specs.Waits.{counts_of, times, SameWait, Counting}
+use Rattle.waiting.specs.Waits.{counts_of, times, SameWait}
 use Rattle.waiting.specs.declared.waiting.Waiting.{Waiting}
-use Rattle.waiting.proofs.Waits.{same_trans}
 use Rattle.waiting.proofs.Kept.{goes_counting}
+use Rattle.removing.specs.Follows.{Follows}
 use Rattle.removing.specs.Outs.{names, without_named}
+use Rattle.removing.proofs.Following.{follows_none, follows_two}
 
 -- the last item moved to a place, and then mapped
 map_swap : {X Y : Type 0} (f : X → Y) (d : X) (xs : List X) (i : ℕ) → map f (swap_remove xs i d) ≡ swap_remove (map f xs) i (f d)
@@ -77,12 +77,10 @@ module _ (n l : ℕ) where
   pub record Going (i k : ℕ) (M N : Meaning) (v w : Waiting) : Type 0 where
     pub left : rest i N ≡ without_named n l M
     pub far : length (N.own l) + k ≡ i + length (M.own l)
-    pub waits : SameWait v w
-    pub index : Indexed M → Indexed N
-    pub counts : Indexed M → (top : ℕ) → Counting M top v → Counting N top w
+    pub follows : Follows M N v w
 
   pub going_starts : (M : Meaning) (v : Waiting) → Going 0 0 M M v v
-  going_starts M v = record { left = rest_start M; far = omega arith; waits = λ n. (λ h. h, λ h. h); index = λ I. I; counts = λ I top c. c }
+  going_starts M v = record { left = rest_start M; far = omega arith; follows = follows_none M v }
 
   module _ (i k : ℕ) (M N : Meaning) (v w : Waiting) (g : Going i k M N v w) where
     pub going_ends : length (N.own l) ≤ i → N ≡ without_named n l M
@@ -90,16 +88,14 @@ module _ (n l : ℕ) where
 
     module _ (h : i < length (N.own l)) where
       pub going_stays : names n (get_or (N.own l) i []) ≡ false → Going (i + 1) (k + 1) M N v w
-      going_stays t = record { left = rest_stays i N h t ∙ g.left; far = omega (arith, g.far); waits = g.waits; index = g.index; counts = g.counts }
+      going_stays t = record { left = rest_stays i N h t ∙ g.left; far = omega (arith, g.far); follows = g.follows }
 
       pub going_goes : names n (get_or (N.own l) i []) ≡ true → Lawful N → Lawful (removed l i N) → (x : Waiting) → SameWait w x
           → ((k : ℕ) → k < 2048 → counts_of x k ≡ counts_of w k - times k (front (get_or (N.own l) i []))) → Going i (k + 1) M (removed l i N) v x
       going_goes t L L' x s e = record {
         left = rest_goes i N h t ∙ g.left;
         far = omega (arith, g.far, removed_length N l i);
-        waits = same_trans v w x g.waits s;
-        index = λ I. removed_indexed N l i (g.index I) h;
-        counts = λ I top c. goes_counting N (g.index I) L l i h L' top w x e (g.counts I top c);
+        follows = follows_two M N (removed l i N) v w x g.follows (record { index = λ J. removed_indexed N l i J h; waits = s; counts = λ J top c. goes_counting N J L l i h L' top w x e c });
       }
 
 -- what is said of an option, as the contracts of a store say it

@@ -3,3 +3,4 @@ pub mod Ruled
 pub mod Flags
 pub mod Sweeps
 pub mod Settles
+pub mod Following

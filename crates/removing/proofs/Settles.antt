@@ -1,56 +1,51 @@
 -- Clauses entered one after another, with the counts told. Assumes nothing.
 use Rattle.std.proofs.Common.{◌≡◌, ℕ, suc, ◌+◌, ◌-◌, ◌^◌, ◌<◌, ◌≤◌, Bool, true, false, ltb, min, List, [], ◌∷◌, ◌++◌, map, filter, length, get_or, take, sym, refl, ap, ◌∙◌, subst, arith}
-use Rattle.std.proofs.lemmas.Bool.{and_from, and_parts, lt-ltb, le-leb, cond-true, cond-false, cond_both}
+use Rattle.std.proofs.lemmas.Bool.{and_from, and_parts, lt-ltb, le-leb, cond-true, cond-false}
 use Rattle.std.proofs.lemmas.List.{length-take-le, get_or-take, take_more, append-nil, map-append}
 use Rattle.std.proofs.lemmas.List.Elements.{filter-append}
 use Rattle.lemmas.specs.Lines.{clauses_of, Lined}
 use Rattle.lemmas.specs.Words.{named}
 use Rattle.lemmas.specs.declared.Lemmas.{Lemmas}
 use Rattle.network.specs.Clauses.{front, well_formed}
-use Rattle.rules.specs.Index.{Indexed}
 use Rattle.rules.specs.Lawful.{Lawful}
 use Rattle.rules.specs.Store.{Meaning, kept_clauses, enterable, entered, enter}
 use Rattle.rules.specs.Work.{add, each}
 use Rattle.rules.proofs.Index.{entered_indexed}
 use Rattle.simplifier.specs.Shown.{work_of}
 use Rattle.simplifier.specs.declared.state.Simplifier.{Simplifier}
-use Rattle.waiting.specs.Waits.{counts_of, times, Counting}
+use Rattle.waiting.specs.Waits.{counts_of, times, SameWait}
 use Rattle.waiting.specs.declared.waiting.Waiting.{Waiting}
-use Rattle.waiting.proofs.Waits.{same_trans}
 use Rattle.waiting.proofs.Kept.{comes_counting}
+use Rattle.removing.specs.Follows.{Follows}
 use Rattle.removing.specs.Owed.{stands, owed, Settled}
+use Rattle.removing.proofs.Following.{follows_none, follows_two}
 use Rattle.removing.proofs.Ruled.{each_parts}
 
 -- ## One clause
 
 module _ (M N : Meaning) (D : List ℕ) (made : N ≡ (enter D M).0) where
-  pub index_stays : Indexed M → Indexed N
+  pub refused_follows : enterable M D ≡ false → (v : Waiting) → Follows M N v v
   unfolding enter
-  index_stays I = subst Indexed (sym made) (cond_both {A = Meaning × Bool} (enterable M D) (entered D M, true) (M, false) (λ r. Indexed r.0) (λ t. entered_indexed M D I) (λ f. I))
+  refused_follows f v = let is = made ∙ ap (λ (r : Meaning × Bool). r.0) (cond-false (enterable M D) (entered D M, true) (M, false) f) in subst (λ P. Follows M P v v) (sym is) (follows_none M v)
 
-  pub counts_refused : enterable M D ≡ false → (top : ℕ) (v : Waiting) → Counting M top v → Counting N top v
+  pub entered_follows : enterable M D ≡ true → Lawful N → M.room ≤ 4096 → (v w : Waiting) → SameWait v w → ((k : ℕ) → k < 2048 → counts_of w k ≡ min (counts_of v k + times k (front D)) (2 ^ 32 - 1)) → Follows M N v w
   unfolding enter
-  counts_refused f top v c = subst (λ P. Counting P top v) (sym (made ∙ ap (λ (r : Meaning × Bool). r.0) (cond-false (enterable M D) (entered D M, true) (M, false) f))) c
-
-  pub counts_entered : enterable M D ≡ true → Lawful N → M.room ≤ 4096 → Indexed M → (v w : Waiting) → ((k : ℕ) → k < 2048 → counts_of w k ≡ min (counts_of v k + times k (front D)) (2 ^ 32 - 1)) → (top : ℕ) → Counting M top v → Counting N top w
-  unfolding enter
-  counts_entered t L small I v w e top c =
+  entered_follows t L small v w s e =
       let is = made ∙ ap (λ (r : Meaning × Bool). r.0) (cond-true (enterable M D) (entered D M, true) (M, false) t) in
-      subst (λ P. Counting P top w) (sym is) (comes_counting M I D (and_parts (well_formed D) (ltb (kept_clauses M) M.room) t).0 small (subst Lawful is L) top v w e c)
+      let formed = (and_parts (well_formed D) (ltb (kept_clauses M) M.room) t).0 in
+      subst (λ P. Follows M P v w) (sym is) (record { index = entered_indexed M D; waits = s; counts = λ I top c. comes_counting M I D formed small (subst Lawful is L) top v w e c })
 
 -- ## All
 
 module _ {S : Type 0} (meaning : S → Meaning) where
   pub settled_none : (s : Simplifier S) (v : Waiting) → Settled meaning [] s s v v
-  settled_none s v = record { made = λ out. refl; flags = refl; index = λ I. I; waits = λ n. (λ h. h, λ h. h); counts = λ I top c. c }
+  settled_none s v = record { made = λ out. refl; flags = refl; follows = follows_none (meaning s.store) v }
 
   pub settled_more : (Cs Ds : List (List ℕ)) (s t u : Simplifier S) (v w x : Waiting) → Settled meaning Cs s t v w → Settled meaning Ds t u w x → Settled meaning (Cs ++ Ds) s u v x
   settled_more Cs Ds s t u v w x a b = record {
     made = λ out. b.made out ∙ ap (each add Ds) (a.made out) ∙ sym (each_parts add Cs Ds (work_of meaning s out));
     flags = b.flags ∙ a.flags;
-    index = λ I. b.index (a.index I);
-    waits = same_trans v w x a.waits b.waits;
-    counts = λ I top c. b.counts (a.index I) top (a.counts I top c);
+    follows = follows_two (meaning s.store) (meaning t.store) (meaning u.store) v w x a.follows b.follows;
   }
 
   pub settled_same : (Cs Ds : List (List ℕ)) (s t u : Simplifier S) (v w x : Waiting) → Ds ≡ Cs → u ≡ t → x ≡ w → Settled meaning Cs s t v w → Settled meaning Ds s u v x

@@ -1,2 +1,3 @@
 pub mod Outs
 pub mod Owed
+pub mod Follows

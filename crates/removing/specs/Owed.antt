@@ -3,13 +3,12 @@ use Rattle.std.specs.Prelude.{◌≡◌, ℕ, ◌+◌, ◌*◌, Bool, ◌&&◌, 
 use Rattle.lemmas.specs.Lines.{clauses_of}
 use Rattle.lemmas.specs.Words.{named}
 use Rattle.lemmas.specs.declared.Lemmas.{Lemmas}
-use Rattle.rules.specs.Index.{Indexed}
 use Rattle.rules.specs.Store.{Meaning}
 use Rattle.rules.specs.Work.{add, each}
 use Rattle.simplifier.specs.Shown.{work_of}
 use Rattle.simplifier.specs.declared.state.Simplifier.{Simplifier}
-use Rattle.waiting.specs.Waits.{SameWait, Counting}
 use Rattle.waiting.specs.declared.waiting.Waiting.{Waiting}
+use Rattle.removing.specs.Follows.{Follows}
 
 -- the kth clause has its words, and at most 32 literals
 abbrev pub stands : Lemmas → ℕ → Bool
@@ -23,6 +22,4 @@ owed n w = named (clauses_of w) (filter (stands w) (take n w.order.now))
 pub record Settled {S : Type 0} (meaning : S → Meaning) (Cs : List (List ℕ)) (s t : Simplifier S) (v w : Waiting) : Type 0 where
   pub made : (out : List ℕ) → work_of meaning t out ≡ each add Cs (work_of meaning s out)
   pub flags : t.taken_out ≡ s.taken_out
-  pub index : Indexed (meaning s.store) → Indexed (meaning t.store)
-  pub waits : SameWait v w
-  pub counts : Indexed (meaning s.store) → (top : ℕ) → Counting (meaning s.store) top v → Counting (meaning t.store) top w
+  pub follows : Follows (meaning s.store) (meaning t.store) v w

@@ -1,9 +1,8 @@
 // The clauses that name a node, cleared from own lists.
 ghost use Rattle.std.specs.Prelude.{◌≡◌, ℕ, ◌+◌, ◌*◌, ◌<◌, ◌≤◌, false, ◌||◌, slice_index_or};
 ghost use Rattle.std.specs.List.{list_any};
-ghost use Rattle.rules.specs.Index.{Indexed};
+ghost use Rattle.removing.specs.Follows.{Follows};
 ghost use Rattle.removing.specs.Outs.{is_of, names, used_in, uses_gone, without_named};
-ghost use Rattle.waiting.specs.Waits.{SameWait, Counting};
 
 use store::store::Store;
 use waiting::Waiting;
@@ -18,11 +17,10 @@ fn names(clause: &[u32], node: u32) -> bool
 // Takes the clauses that name the node out of the own list of l, from the first place on, and tells the counts of each.
 pub(crate) fn clear_named<S: Store>(store: &mut S, waiting: &mut Waiting<'_>, l: u32, node: u32)
     ensures makes { S.meaning store.new ≡ without_named node l (S.meaning store.old) }
-    ensures waits { SameWait waiting.old waiting.new }
-    ensures index { Indexed (S.meaning store.old) → Indexed (S.meaning store.new) }
-    ensures counts { Indexed (S.meaning store.old) → (most : ℕ) → Counting (S.meaning store.old) most waiting.old → Counting (S.meaning store.new) most waiting.new }
+    ensures follows { Follows (S.meaning store.old) (S.meaning store.new) waiting.old waiting.new }
 {
     let mut at = store.first(l);
+    // Counted, so that the walk is seen to end: there are as many clauses as it says, and `at` is never None here.
     for _k in 0..store.own_len(l) {
         let Some(h) = at else {
             return;
@@ -42,6 +40,7 @@ fn flag_users<S: Store>(store: &S, x: u32, flags: &mut [bool; 2048])
     ensures { (l : ℕ) → l < 2048 → slice_index_or flags.new l false ≡ (slice_index_or flags.old l false || list_any (is_of l) ((S.meaning store.now).uses x)) }
 {
     let mut at = store.first_use(x);
+    // Counted as above.
     for _j in 0..store.count(x) {
         let Some(u) = at else {
             return;
@@ -68,9 +67,7 @@ fn users<S: Store>(store: &S, node: u32) -> [bool; 2048]
 pub(crate) fn clear_uses<S: Store>(store: &mut S, waiting: &mut Waiting<'_>, node: u32, top: u32)
     requires { (node ≤ top) × (top ≤ 1023) }
     ensures makes { S.meaning store.new ≡ uses_gone node top (S.meaning store.old) }
-    ensures waits { SameWait waiting.old waiting.new }
-    ensures index { Indexed (S.meaning store.old) → Indexed (S.meaning store.new) }
-    ensures counts { Indexed (S.meaning store.old) → (most : ℕ) → Counting (S.meaning store.old) most waiting.old → Counting (S.meaning store.new) most waiting.new }
+    ensures follows { Follows (S.meaning store.old) (S.meaning store.new) waiting.old waiting.new }
 {
     let flags = users(store, node);
     for l in 2 * node + 2..2 * top + 2 {

@@ -1,11 +1,11 @@
 // The step: a node is taken out, and its resolvents are owed.
 ghost use Rattle.std.specs.Prelude.{◌≡◌, ℕ, ◌<◌, ◌≤◌, true, List, ◌∷◌, slice_set, MatchOption};
+ghost use Rattle.removing.specs.Follows.{Follows};
 ghost use Rattle.removing.specs.Outs.{named_out};
 ghost use Rattle.removing.specs.Owed.{owed, Settled};
 ghost use Rattle.rules.specs.Bve.{taken_out};
 ghost use Rattle.rules.specs.Index.{Indexed};
 ghost use Rattle.simplifier.specs.Shown.{work_of};
-ghost use Rattle.waiting.specs.Waits.{SameWait, Counting};
 
 use crate::clear::{clear_named, clear_uses};
 use crate::enter::{enter_counted, owed_clause};
@@ -31,9 +31,7 @@ pub fn take_out<S: Store>(
     ensures ruled { node ≤ s.old.top → Indexed (S.meaning s.old.store) → (out : List ℕ) → work_of S.meaning s.new (node ∷ out) ≡ taken_out node (work_of S.meaning s.old out) }
     ensures flags { node ≤ s.old.top → s.new.taken_out ≡ slice_set s.old.taken_out node true }
     ensures others { (s.new.top ≡ s.old.top) × (s.new.frozen ≡ s.old.frozen) × (s.new.values ≡ s.old.values) }
-    ensures index { Indexed (S.meaning s.old.store) → Indexed (S.meaning s.new.store) }
-    ensures waits { SameWait waiting.old waiting.new }
-    ensures counts { Indexed (S.meaning s.old.store) → (top : ℕ) → Counting (S.meaning s.old.store) top waiting.old → Counting (S.meaning s.new.store) top waiting.new }
+    ensures follows { Follows (S.meaning s.old.store) (S.meaning s.new.store) waiting.old waiting.new }
 {
     if node > s.top {
         return None;

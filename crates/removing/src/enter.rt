@@ -2,11 +2,10 @@
 ghost use Rattle.std.specs.Prelude.{◌≡◌, ℕ, ◌≤◌, true, false, List, [], ◌∷◌, length, MatchOption, Some};
 ghost use Rattle.lemmas.specs.Lines.{clauses_of};
 ghost use Rattle.lemmas.specs.Words.{lemma_at};
+ghost use Rattle.removing.specs.Follows.{Follows};
 ghost use Rattle.removing.specs.Owed.{stands, Settled};
-ghost use Rattle.rules.specs.Index.{Indexed};
 ghost use Rattle.rules.specs.Work.{add_simplified};
 ghost use Rattle.simplifier.specs.Shown.{work_of};
-ghost use Rattle.waiting.specs.Waits.{SameWait, Counting};
 
 use lemmas::Lemmas;
 use simplifier::state::Simplifier;
@@ -32,9 +31,7 @@ pub(crate) fn owed_clause<'w>(words: &'w Lemmas<'_>, number: u32) -> Option<&'w 
 fn enter_told<S: Store>(s: &mut Simplifier<S>, waiting: &mut Waiting<'_>, clause: &[u32])
     ensures makes { (out : List ℕ) → work_of S.meaning s.new out ≡ add_simplified (Some clause.now) (work_of S.meaning s.old out) }
     ensures kept { s.new.taken_out ≡ s.old.taken_out }
-    ensures index { Indexed (S.meaning s.old.store) → Indexed (S.meaning s.new.store) }
-    ensures waits { SameWait waiting.old waiting.new }
-    ensures counts { Indexed (S.meaning s.old.store) → (most : ℕ) → Counting (S.meaning s.old.store) most waiting.old → Counting (S.meaning s.new.store) most waiting.new }
+    ensures follows { Follows (S.meaning s.old.store) (S.meaning s.new.store) waiting.old waiting.new }
 {
     if s.enter_left(clause) {
         waiting.clause_comes(clause);

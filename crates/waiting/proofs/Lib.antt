@@ -3,3 +3,4 @@ pub mod Recounts
 pub mod Nexts
 pub mod Beginnings
 pub mod Kept
+pub mod Callers

@@ -14,6 +14,7 @@ use Rattle.queue.specs.Heaps.{Heap, Popped}
 use Rattle.queue.specs.Orders.{Test}
 use Rattle.queue.specs.Places.{Placed}
 use Rattle.queue.specs.Waiting.{waiting}
+use Rattle.queue.specs.declared.Queue.{Queue}
 use Rattle.queue.proofs.Index.{place_of}
 use Rattle.rules.specs.Bve.{least, but}
 use Rattle.waiting.specs.Waits.{WaitAll, Next}
@@ -52,9 +53,12 @@ module _ (f : ℕ → ℕ) where
       second q t = let b = a n (inl refl) (λ z. omega (arith, z, q, rises)) in grind (arith, nat_tests, b, t, q, rises, ap f q)
 
   -- nothing was left to hand out
-  pub next_none : (w : Waiting) (xs ns : List ℕ) → xs ≡ [] → ((n : ℕ) → Has xs n ↔ In n ns) → Next f ns None w
-  next_none w xs [] e all = refl
-  next_none w xs (k ∷ ks) e all = let h = subst (λ ys. Has ys k) e ((all k).1 (inl refl)) in absurd (omega (arith, h.1))
+  next_none : (w : Waiting) (q : Queue) (ns : List ℕ) → waiting q ≡ [] → w.queue ≡ q → ((n : ℕ) → Has (waiting q) n ↔ In n ns) → Next f ns None w
+  next_none w q [] e same all = (refl, λ n. (λ h. absurd (none n (subst (λ r. Has (waiting r) n) same h)), λ h. absurd h))
+    where
+      none : (n : ℕ) → Has (waiting q) n → ⊥
+      none n h = (all n).0 h
+  next_none w q (k ∷ ks) e same all = let h = subst (λ ys. Has ys k) e ((all k).1 (inl refl)) in absurd (omega (arith, h.1))
 
   module _ (w : Waiting) (xs : List ℕ) (e : ℕ) (heap : Heap (by_key f) xs) (p : Popped (by_key f) xs e (waiting w.queue)) where
     ahead_all : (ns : List ℕ) → ((n : ℕ) → Has xs n ↔ In n ns) → Ahead e ns
@@ -83,10 +87,10 @@ module _ (f : ℕ → ℕ) where
         (ap Some (sym q), subst (λ n. WaitAll w (but n (k ∷ ks))) (sym q) (left_all (k ∷ ks) all))
 
 -- what a pop answers
-pub next_is : (f : ℕ → ℕ) (w : Waiting) (xs : List ℕ) (Q : Type 0) (r : Option ℕ) → Heap (by_key f) xs → MatchOption r ((xs ≡ []) × Q) (λ e. Popped (by_key f) xs e (waiting w.queue))
-    → (ns : List ℕ) → Rising ns → ((n : ℕ) → Has xs n ↔ In n ns) → Next f ns r w
-next_is f w xs Q None heap p ns r all = next_none f w xs ns p.0 all
-next_is f w xs Q (Some e) heap p ns r all = next_some f w xs e heap p ns r all
+pub next_is : (f : ℕ → ℕ) (w : Waiting) (q : Queue) (r : Option ℕ) → Heap (by_key f) (waiting q) → MatchOption r ((waiting q ≡ []) × (w.queue ≡ q)) (λ e. Popped (by_key f) (waiting q) e (waiting w.queue))
+    → (ns : List ℕ) → Rising ns → ((n : ℕ) → Has (waiting q) n ↔ In n ns) → Next f ns r w
+next_is f w q None heap p ns r all = next_none f w q ns p.0 p.1 all
+next_is f w q (Some e) heap p ns r all = next_some f w (waiting q) e heap p ns r all
 
 -- what a pop hands out has its place
 pub popped_below : (ahead : Test) (xs ys ps : List ℕ) (Q : Type 0) (r : Option ℕ) → MatchOption r ((xs ≡ []) × Q) (λ e. Popped ahead xs e ys) → Placed xs ps → MatchOption r ⊤ (λ e. e < length ps)

@@ -31,9 +31,9 @@ times l C = how_many (nat_eq l) C
 abbrev pub WaitAll : Waiting → List ℕ → Type 0
 WaitAll w ns = (n : ℕ) → Waits w n ↔ In n ns
 
--- the answer of a look for the next of the nodes ns: none of none, else the first for which f is least, and the others still wait
+-- the answer of a look for the next of the nodes ns: none of none, and still none waits, else the first for which f is least, and the others still wait
 abbrev pub Next : (ℕ → ℕ) → List ℕ → Option ℕ → Waiting → Type 0
-Next f [] r w = r ≡ None
+Next f [] r w = (r ≡ None) × WaitAll w []
 Next f (k ∷ ks) r w = (r ≡ Some (least f k ks)) × WaitAll w (but (least f k ks) (k ∷ ks))
 
 -- the counts of the literals of the nodes 0 to top are those of M

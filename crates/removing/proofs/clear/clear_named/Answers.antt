@@ -43,9 +43,7 @@ returns-in_default g c =
     let (i, r, w) = c.loop-k.invariant in
     record {
       makes = going_ends c.args.node c.args.l i c.loop-k._k M (g.S.Lists.meaning s) c.args.waiting.now c.loop-k.waiting w (subst (Reached g.S.Lists.meaning g.S.Lists.at s c.args.l i) c.in_default.is r);
-      waits = w.waits;
-      index = w.index;
-      counts = w.counts;
+      follows = w.follows;
     }
 
 pub returns : goal.returns
@@ -54,7 +52,5 @@ returns g c =
     let (i, r, w) = c.loop-k.invariant in
     record {
       makes = going_ends c.args.node c.args.l i c.loop-k._k M (g.S.Lists.meaning c.loop-k.store) c.args.waiting.now c.loop-k.waiting w (omega (arith, w.far, c.own_len-k-end.ensures, c.loop-k-test.false));
-      waits = w.waits;
-      index = w.index;
-      counts = w.counts;
+      follows = w.follows;
     }

@@ -20,7 +20,7 @@ loop-l-preserved g c =
           let e = w.clear_named.ensures in
           subst (λ s. Swept n (l + 1) M (meaning s) v c.if-flags-l.waiting) (sym w.store-is)
           (subst (Swept n (l + 1) M (meaning w.clear_named.new.store) v) (sym w.waiting-is)
-          (swept_gone n l M N v c.loop-l.waiting c.loop-l.invariant c.loop-l.auto.l _ flag w.if-flags-l.true (meaning w.clear_named.new.store) w.clear_named.new.waiting e.makes e.waits e.index e.counts))
+          (swept_gone n l M N v c.loop-l.waiting c.loop-l.invariant c.loop-l.auto.l _ flag w.if-flags-l.true (meaning w.clear_named.new.store) w.clear_named.new.waiting e.makes e.follows))
       | else-flags-l w ↦
           subst (λ s. Swept n (l + 1) M (meaning s) v c.if-flags-l.waiting) (sym w.store-is)
           (subst (Swept n (l + 1) M N v) (sym w.waiting-is) (swept_stays n l M N v c.loop-l.waiting c.loop-l.invariant c.loop-l.auto.l _ flag w.if-flags-l.false))
@@ -31,7 +31,5 @@ returns g c =
     let s = c.loop-l.invariant in
     record {
       makes = swept_ends c.args.node c.loop-l.l c.args.top (g.S.Lists.meaning c.args.store.now) (g.S.Lists.meaning c.loop-l.store) c.args.waiting.now c.loop-l.waiting s (omega (arith, c.requires, c.loop-l.auto.l-end)) (omega (arith, c.requires));
-      waits = s.waits;
-      index = s.index;
-      counts = s.counts;
+      follows = s.follows;
     }

@@ -1,5 +1,5 @@
 use Rattle.std.proofs.Common.{◌∙◌}
-use Rattle.waiting.proofs.Waits.{same_trans}
+use Rattle.removing.proofs.Following.{follows_two}
 use Rattle.simplifier.specs.Shown.{work_of}
 use Rattle.removing.proofs.Ruled.{named_out_steps, named_taken_out}
 use Rattle.removing.proofs.debt.take_out.Goals as goal
@@ -12,10 +12,11 @@ returns-clause-makes g c le out =
 pub returns-clause-ruled : goal.returns-clause-ruled
 returns-clause-ruled g c le I out = returns-clause-makes g c le out ∙ named_taken_out c.args.node (work_of g.S.Lists.meaning c.args.s.now out) I (g.met.S.Lists.lawful c.args.s.now.store) le
 
-pub returns-clause-waits : goal.returns-clause-waits
-returns-clause-waits g c = same_trans c.args.waiting.now c.clear_named.new.waiting c.clear_named-2.new.waiting (same_trans c.args.waiting.now c.clear_uses.new.waiting c.clear_named.new.waiting c.clear_uses.ensures.waits c.clear_named.ensures.waits) c.clear_named-2.ensures.waits
-
-pub returns-clause-counts : goal.returns-clause-counts
-returns-clause-counts g c I top d =
-    let J = c.clear_uses.ensures.index I in
-    c.clear_named-2.ensures.counts (c.clear_named.ensures.index J) top (c.clear_named.ensures.counts J top (c.clear_uses.ensures.counts I top d))
+pub returns-clause-follows : goal.returns-clause-follows
+returns-clause-follows g c =
+    let m = g.S.Lists.meaning in
+    let M = m c.args.s.now.store in
+    let P = m c.clear_named.new.store in
+    let v = c.args.waiting.now in
+    let x = c.clear_named.new.waiting in
+    follows_two M P (m c.clear_named-2.new.store) v x c.clear_named-2.new.waiting (follows_two M (m c.clear_uses.new.store) P v c.clear_uses.new.waiting x c.clear_uses.ensures.follows c.clear_named.ensures.follows) c.clear_named-2.ensures.follows

@@ -3,6 +3,7 @@ use Rattle.network.specs.Values.{simplified}
 use Rattle.rules.specs.Work.{add, add_simplified}
 use Rattle.simplifier.specs.Shown.{work_of}
 use Rattle.simplifier.proofs.Entries.{written_some, written_none}
+use Rattle.removing.proofs.Following.{follows_none}
 use Rattle.removing.proofs.enter.enter_counted.Goals as goal
 
 pub returns-in-Some : goal.returns-in-Some
@@ -14,9 +15,7 @@ returns-in-Some g c =
     record {
       made = λ out. let W = work_of m c.args.s.now out in e.makes out ∙ ap (λ o. add_simplified o W) (sym (written_some (length C) c.in-Some.n (simplified W.values C) _ c.left_of.new.out c.in-Some.ensures));
       flags = e.kept;
-      index = e.index;
-      waits = e.waits;
-      counts = e.counts;
+      follows = e.follows;
     }
 
 pub returns-in_default : goal.returns-in_default
@@ -27,7 +26,5 @@ returns-in_default g c =
     record {
       made = λ out. let W = work_of m c.args.s.now out in ap (λ o. add_simplified o W) (sym (written_none (length C) (simplified W.values C) _ c.left_of.new.out c.in_default.ensures c.requires));
       flags = refl;
-      index = λ I. I;
-      waits = λ n. (λ h. h, λ h. h);
-      counts = λ I top d. d;
+      follows = follows_none (m c.args.s.now.store) c.args.waiting.now;
     }
