@@ -107,19 +107,6 @@ module _ (s t : Owned) (ix : Bool) (j : ℕ → Bool) (u : Listing → ℕ → L
   slot_stays y (inl k) = inl (k.0, own_in k.0 y k.1)
   slot_stays y (inr k) = inr (subst (In y) (sym A.losts) k)
 
-  -- a slot stays at its place
-  pub at_stays : (y l i : ℕ) → At s y l i → At t y l i
-  at_stays y l i a =
-      let long = own s (last C) ++ (x ∷ []) in
-      rw (A.owns l) (elim (cases_eq l (last C)) [
-        | inl q ↦
-            let p : i < length (own s (last C)) = subst (λ (m : ℕ). i < length (own s m)) q a.0 in
-            let e : get_or (own s (last C)) i 0 ≡ y = ap (λ (m : ℕ). get_or (own s m) i 0) (sym q) ∙ a.1 in
-            let n = length_push (own s (last C)) x in
-            rw (at_here (own s) (last C) long l q) (omega arith, get_or_append_left (own s (last C)) (x ∷ []) 0 i p ∙ e)
-        | inr n ↦ rw (at_else (own s) (last C) long l n) a
-      ])
-
   -- and the index, which the slot has joined if it stands
   module _ (j' : ℕ → Bool) (u' : Listing → ℕ → List ℕ) (joins : (y : ℕ) → j' y ≡ cond (eqb y x) (ix && ltb 0 (length (front C))) (j y))
       (uses : (k : ℕ) → u' (listed t) k ≡ cond (ix && has k (front C)) (u (listed t) k ++ (x ∷ [])) (u (listed t) k)) where
