@@ -1,5 +1,5 @@
 -- What a pass makes of a simplifier, by the nodes that it takes out. Assumes nothing.
-use Rattle.std.specs.Prelude.{◌≡◌, ℕ, suc, Bool, false, ◌||◌, List, ◌++◌, length, Result, slice_index_or}
+use Rattle.std.specs.Prelude.{◌≡◌, ℕ, suc, Bool, false, cond, ◌||◌, List, ◌∷◌, ◌++◌, length, Result, slice_index_or}
 use Rattle.image.specs.declared.fault.Fault.{Fault}
 use Rattle.network.specs.Clauses.{has}
 use Rattle.rules.specs.Store.{Meaning, up_to}
@@ -11,6 +11,10 @@ use Rattle.simplifier.specs.declared.state.Simplifier.{Simplifier}
 -- the flag of node k stands; those past the flags do not
 abbrev pub flag : List Bool → ℕ → Bool
 flag fs k = slice_index_or fs k false
+
+-- the nodes with n before them, if b
+abbrev pub with_node : Bool → ℕ → List ℕ → List ℕ
+with_node b n out = cond b (n ∷ out) out
 
 -- exactly the nodes of the list are flagged
 abbrev pub Flagged : List Bool → List ℕ → Type 0

@@ -1,7 +1,8 @@
 // The attempts at nodes.
-ghost use Rattle.std.specs.Prelude.{◌≡◌, ℕ, ◌+◌, ◌*◌, ◌≤◌, true, cond, List, ◌∷◌, length, slice_set};
-ghost use Rattle.elimination.specs.Outs.{Made};
+ghost use Rattle.std.specs.Prelude.{◌≡◌, ℕ, ◌≤◌, ◌||◌, List, []};
+ghost use Rattle.elimination.specs.Outs.{flag, with_node, Made};
 ghost use Rattle.elimination.specs.Words.{Roomy};
+ghost use Rattle.network.specs.Clauses.{has};
 ghost use Rattle.rules.specs.Bve.{attempt};
 ghost use Rattle.rules.specs.Index.{Indexed};
 ghost use Rattle.simplifier.specs.Shown.{work_of};
@@ -25,11 +26,13 @@ fn attempt<S: Store>(
     requires small { node ≤ s.now.top }
     requires indexed { Indexed (S.meaning s.now.store) }
     requires roomy { Roomy (S.meaning s.now.store).room words.now }
-    ensures makes { (out : List ℕ) → work_of S.meaning s.new (cond result (node ∷ out) out) ≡ attempt node (work_of S.meaning s.old out) }
-    ensures flags { s.new.taken_out ≡ cond result (slice_set s.old.taken_out node true) s.old.taken_out }
+    ensures makes { (out : List ℕ) → work_of S.meaning s.new (with_node result node out) ≡ attempt node (work_of S.meaning s.old out) }
+    ensures flags { (k : ℕ) → flag s.new.taken_out k ≡ (has k (with_node result node []) || flag s.old.taken_out k) }
+    ensures top { s.new.top ≡ s.old.top }
+    ensures index { Indexed (S.meaning s.new.store) }
     ensures waits { SameWait waiting.old waiting.new }
     ensures counts { (top : ℕ) → Counting (S.meaning s.old.store) top waiting.old → Counting (S.meaning s.new.store) top waiting.new }
-    ensures lent { Roomy (S.meaning s.old.store).room words.new }
+    ensures lent { Roomy (S.meaning s.new.store).room words.new }
 {
     let Some(cost) = attempted_cost(&s.store, node, s.frozen[node as usize]) else {
         return false;
@@ -60,9 +63,7 @@ pub(crate) fn attempt_all<S: Store>(
         let Some(node) = waiting.next() else {
             return count;
         };
-        if attempt(s, waiting, words, node) {
-            count += 1;
-        }
+        count += attempt(s, waiting, words, node) as u32;
     }
     count
 }
