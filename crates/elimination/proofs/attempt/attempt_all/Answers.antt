@@ -1,4 +1,5 @@
-use Rattle.std.proofs.Common.{◌≡◌, suc, cond, ◌+◌, ◌-◌, arith, refl, sym, ◌∙◌, subst, [], ap, ◌≤◌}
+use mir.Val.{bool_byte}
+use Rattle.std.proofs.Common.{◌≡◌, suc, cond, Bool, true, false, ◌+◌, ◌-◌, arith, refl, sym, ◌∙◌, subst, [], ap, ◌≤◌}
 use Rattle.waiting.specs.Waits.{Counting}
 use Rattle.elimination.proofs.Turns.{Under, at_first, at_last, none_waits, handed_small, one_on}
 use Rattle.elimination.proofs.attempt.attempt_all.Given.{Over}
@@ -8,6 +9,11 @@ use Rattle.elimination.proofs.attempt.attempt_all.Goals.{After-next}
 -- one attempt more is to come
 one_more : (g : Over) (c : After-next g) → Under g.S.Lists.meaning (suc (c.args.s.now.top - c.loop-k._k)) c.loop-k.count c.args.s.now c.loop-k.s c.loop-k.waiting
 one_more g c = subst (λ f. Under g.S.Lists.meaning f c.loop-k.count c.args.s.now c.loop-k.s c.loop-k.waiting) (omega arith) c.loop-k.invariant.under
+
+-- the word of an answer
+word_of : (b : Bool) → bool_byte b ≡ cond b 1 0
+word_of true = refl
+word_of false = refl
 
 pub loop-k-init : goal.loop-k-init
 loop-k-init g c = record {
@@ -36,11 +42,11 @@ loop-k-preserved g c =
     let s = c.args.s.now in
     let n = s.top - l._k in
     let a = c.attempt.ensures in
-    let more = l.count + cond c.attempt.result 1 0 in
+    let more = l.count + bool_byte c.attempt.result in
     record {
       under = subst (λ f. Under m f more s c.attempt.new.s c.attempt.new.waiting) {x = n} (omega arith)
           (one_on m n l.count c.in-Some.node s l.s l.waiting c.next.new.self (one_more g (goal.at.loop-k-preserved g c).After-next) l.invariant.counts c.in-Some.ensures.next
-          c.attempt.result more c.attempt.new.s c.attempt.new.waiting refl a.makes a.flags a.waits);
+          c.attempt.result more c.attempt.new.s c.attempt.new.waiting (ap (λ n. l.count + n) (word_of c.attempt.result)) a.makes a.flags a.waits);
       top = a.top ∙ l.invariant.top;
       index = a.index;
       counts = a.counts s.top (λ k h. c.next.ensures.counts k ∙ l.invariant.counts k h);
