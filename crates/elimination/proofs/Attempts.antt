@@ -1,15 +1,12 @@
 -- One attempt, by what was answered on the way. Assumes nothing.
-use Rattle.std.proofs.Common.{◌≡◌, ℕ, ◌+◌, ◌*◌, ◌≤◌, Bool, true, false, cond, not, ◌&&◌, ◌||◌, eqb, List, [], ◌∷◌, length, get_or, set, Some, None, Option, sym, refl, ap, ◌∙◌, subst, ⊎_elim, arith}
+use Rattle.std.proofs.Common.{◌≡◌, ℕ, ◌+◌, ◌*◌, ◌≤◌, Bool, true, false, cond, not, ◌&&◌, length, Some, None, refl, ◌∙◌, subst, arith}
 use Rattle.std.proofs.Math.Nat.{le_trans}
-use Rattle.std.proofs.lemmas.Bool.{and_from, le-leb, cond-true, cond-false, cases_eq}
-use Rattle.std.proofs.lemmas.Bool.Decides.{nat_tests}
-use Rattle.std.proofs.lemmas.List.{get_or-set_same, get_or-set_other}
+use Rattle.std.proofs.lemmas.Bool.{and_from, le-leb, cond-true, cond-false}
 use Rattle.lemmas.specs.declared.Lemmas.{Lemmas}
-use Rattle.network.specs.Clauses.{has}
 use Rattle.network.specs.Lemmas.{lemmas}
 use Rattle.rules.specs.Index.{Indexed}
 use Rattle.rules.specs.Lawful.{Lawful}
-use Rattle.rules.specs.Store.{Meaning, live_clauses}
+use Rattle.rules.specs.Store.{Meaning}
 use Rattle.rules.specs.Work.{Work, each, add}
 use Rattle.rules.specs.Bve.{all_resolvents, cost, taken_out, eliminated, passed_over, given_up, attempted, attempt}
 use Rattle.rules.proofs.Along.{equal_chains, entry_cases, Steps, attempt_along}

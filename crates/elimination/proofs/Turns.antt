@@ -1,17 +1,16 @@
 -- The attempts one after another, as nodes are handed out. Assumes nothing.
-use Rattle.std.proofs.Common.{◌↔◌, ◌≡◌, ℕ, zero, suc, ◌+◌, ◌*◌, ◌<◌, ◌≤◌, Bool, true, false, cond, not, ◌||◌, ltb, eqb, ◌⊎◌, List, [], ◌∷◌, ◌++◌, length, Some, None, Option, sym, refl, ap, ◌∙◌, subst, inl, inr, ⊎_elim, arith}
+use Rattle.std.proofs.Common.{◌↔◌, ◌≡◌, ℕ, zero, suc, ◌+◌, ◌*◌, ◌<◌, ◌≤◌, Bool, true, false, cond, not, ◌||◌, ltb, eqb, List, [], ◌∷◌, ◌++◌, length, Some, None, sym, refl, ap, ◌∙◌, subst, inl, inr, ⊎_elim, arith}
 use Rattle.std.proofs.lemmas.Bool.{cond_both}
 use Rattle.network.specs.Clauses.{Rising, has}
 use Rattle.network.specs.Lists.{In}
 use Rattle.network.proofs.Lists.{kept_in}
 use Rattle.network.proofs.Resolution.{rising_kept}
 use Rattle.rules.specs.Store.{Meaning, from, up_to}
-use Rattle.rules.specs.Work.{Work}
 use Rattle.rules.specs.Bve.{use_count, least, but, attempt, attempts}
 use Rattle.rules.proofs.Index.{in_up_to}
 use Rattle.simplifier.specs.Shown.{work_of}
 use Rattle.simplifier.specs.declared.state.Simplifier.{Simplifier}
-use Rattle.waiting.specs.Waits.{Waits, WaitAll, SameWait, Next, Begins, Counting, both_counts}
+use Rattle.waiting.specs.Waits.{Waits, WaitAll, SameWait, Next, Counting, both_counts}
 use Rattle.waiting.specs.declared.waiting.Waiting.{Waiting}
 use Rattle.elimination.specs.Outs.{flag, with_node, Made}
 
@@ -137,16 +136,16 @@ module _ {S : Type 0} (meaning : S → Meaning) where
         (made : (out : List ℕ) → work_of meaning t' (with_node b n out) ≡ attempt n (work_of meaning t out))
         (flags : (k : ℕ) → flag t'.taken_out k ≡ (has k (with_node b n []) || flag t.taken_out k)) (same : SameWait w w')
       where
-      pub one_on : Under fuel more s t' w'
-      one_on = record {
-        waits = but n u.waits;
-        rises = rising_kept (λ j. not (eqb j n)) u.waits u.rises;
-        small = λ j i. u.small j (kept_in (λ j. not (eqb j n)) j u.waits i).0;
-        all = λ j. (λ x. (handed.4 j).0 ((same j).0 x), λ x. (same j).1 ((handed.4 j).1 x));
-        nodes = with_node b n u.nodes;
-        many = omega (arith, counted, with_length b n u.nodes, u.many);
-        few = omega (arith, counted, at_most_one b, u.few);
-        left = λ out.
-            ap (λ ns. attempts fuel (but n u.waits) (work_of meaning t' ns)) (with_others b n u.nodes out) ∙ ap (attempts fuel (but n u.waits)) (made (u.nodes ++ out)) ∙ turn out;
-        flags = λ k. flags k ∙ ap (λ x. has k (with_node b n []) || x) (u.flags k) ∙ sym (with_has b n k u.nodes (flag s.taken_out k));
-      }
+        pub one_on : Under fuel more s t' w'
+        one_on = record {
+          waits = but n u.waits;
+          rises = rising_kept (λ j. not (eqb j n)) u.waits u.rises;
+          small = λ j i. u.small j (kept_in (λ j. not (eqb j n)) j u.waits i).0;
+          all = λ j. (λ x. (handed.4 j).0 ((same j).0 x), λ x. (same j).1 ((handed.4 j).1 x));
+          nodes = with_node b n u.nodes;
+          many = omega (arith, counted, with_length b n u.nodes, u.many);
+          few = omega (arith, counted, at_most_one b, u.few);
+          left = λ out.
+              ap (λ ns. attempts fuel (but n u.waits) (work_of meaning t' ns)) (with_others b n u.nodes out) ∙ ap (attempts fuel (but n u.waits)) (made (u.nodes ++ out)) ∙ turn out;
+          flags = λ k. flags k ∙ ap (λ x. has k (with_node b n []) || x) (u.flags k) ∙ sym (with_has b n k u.nodes (flag s.taken_out k));
+        }

@@ -1,6 +1,5 @@
 -- What a pass makes of a simplifier, by the nodes that it takes out. Assumes nothing.
-use Rattle.std.specs.Prelude.{◌≡◌, ℕ, suc, Bool, false, cond, ◌||◌, List, ◌∷◌, ◌++◌, length, Result, slice_index_or}
-use Rattle.image.specs.declared.fault.Fault.{Fault}
+use Rattle.std.specs.Prelude.{◌≡◌, ℕ, suc, Bool, false, cond, ◌||◌, List, ◌∷◌, ◌++◌, length, slice_index_or}
 use Rattle.network.specs.Clauses.{has}
 use Rattle.rules.specs.Store.{Meaning, up_to}
 use Rattle.rules.specs.Work.{Work}

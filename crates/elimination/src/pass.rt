@@ -47,10 +47,7 @@ fn attempt_nodes<S: Store>(s: &mut Simplifier<S>, words: &mut [u32]) -> u32
 
 // The pass, unless it is refused with 10, as it is lent too few working words. Its answer is how many nodes were taken out, and how many
 // clauses are live. Where an index stands already, no node waits. After a refusal nothing has changed.
-pub fn bve_simplify<S: Store>(
-    s: &mut Simplifier<S>,
-    words: &mut [u32],
-) -> Result<(u32, u32), Fault>
+pub fn bve_simplify<S: Store>(s: &mut Simplifier<S>, words: &mut [u32]) -> Result<(u32, u32), Fault>
     ensures makes { (out : List ℕ) → Flagged s.old.taken_out out → Answered S.meaning (bve_answer (length words.old) (work_of S.meaning s.old out)) s.new result }
     ensures refused { (f : Fault) → result ≡ Err f → (s.new ≡ s.old) × (words.new ≡ words.old) }
 {

@@ -1,14 +1,12 @@
-use Rattle.std.proofs.Common.{◌≡◌, ℕ, true, List, [], ◌∷◌, refl, ap, sym, ◌∙◌, subst}
+use Rattle.std.proofs.Common.{◌≡◌, [], ◌∷◌, refl, ap, sym, ◌∙◌}
 use Rattle.network.specs.Lemmas.{lemmas}
-use Rattle.rules.specs.Bve.{all_resolvents, taken_out}
+use Rattle.rules.specs.Bve.{all_resolvents}
 use Rattle.rules.specs.Work.{Work, add, each}
 use Rattle.rules.proofs.Passes.{attempt_keeps}
 use Rattle.simplifier.specs.Shown.{work_of}
 use Rattle.waiting.proofs.Waits.{same_trans}
 use Rattle.removing.specs.Owed.{owed}
 use Rattle.removing.proofs.Settles.{owed_lined}
-use Rattle.resolving.specs.Answers.{suffice}
-use Rattle.elimination.specs.Words.{Roomy}
 use Rattle.elimination.proofs.Attempts.{enough, roomy_on, attempt_top, over, cost_is, gives_up, takes}
 use Rattle.elimination.proofs.attempt.attempt.Given.{Over}
 use Rattle.elimination.proofs.attempt.attempt.Goals as goal

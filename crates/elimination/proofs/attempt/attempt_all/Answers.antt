@@ -1,6 +1,5 @@
 use mir.Val.{bool_byte}
-use Rattle.std.proofs.Common.{◌≡◌, suc, cond, Bool, true, false, ◌+◌, ◌-◌, arith, refl, sym, ◌∙◌, subst, [], ap, ◌≤◌}
-use Rattle.waiting.specs.Waits.{Counting}
+use Rattle.std.proofs.Common.{◌≡◌, suc, cond, Bool, true, false, ◌+◌, ◌-◌, arith, refl, ◌∙◌, subst, ap}
 use Rattle.elimination.proofs.Turns.{Under, at_first, at_last, none_waits, handed_small, one_on}
 use Rattle.elimination.proofs.attempt.attempt_all.Given.{Over}
 use Rattle.elimination.proofs.attempt.attempt_all.Goals as goal

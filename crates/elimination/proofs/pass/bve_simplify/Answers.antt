@@ -1,4 +1,4 @@
-use Rattle.std.proofs.Common.{◌≡◌, ◌+◌, ◌*◌, ◌≤◌, ℕ, length, Err, refl, ap, sym, ◌∙◌, subst, arith, rules, [], List}
+use Rattle.std.proofs.Common.{◌≡◌, ◌+◌, ◌*◌, length, refl, ap, sym, ◌∙◌, subst, arith, rules}
 use Rattle.rules.specs.Index.{Indexed}
 use Rattle.rules.specs.Work.{storing}
 use Rattle.rules.proofs.Passes.{index_on_keeps}
