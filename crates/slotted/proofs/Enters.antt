@@ -1,7 +1,6 @@
 -- A clause entered, in own lists and in an index. Assumes nothing.
-use Rattle.std.proofs.Common.{◌≡◌, ℕ, ◌+◌, ◌<◌, ◌≤◌, Bool, true, false, cond, ◌&&◌, eqb, ltb, ◌⊎◌, List, [], ◌∷◌, ◌++◌, length, get_or, sym, refl, ap, ◌∙◌, subst, inl, inr, ⊎_elim, arith}
+use Rattle.std.proofs.Common.{◌≡◌, ℕ, ◌+◌, ◌≤◌, Bool, true, false, cond, ◌&&◌, eqb, ltb, ◌⊎◌, List, [], ◌∷◌, ◌++◌, length, sym, refl, ap, ◌∙◌, subst, inl, inr, ⊎_elim, arith}
 use Rattle.std.proofs.lemmas.Bool.{and_parts, both_ways, cases_Bool, cases_eq}
-use Rattle.std.proofs.lemmas.List.{get_or_append_left, length_push}
 use Rattle.network.specs.Lists.{In}
 use Rattle.network.specs.Clauses.{front, has, last, well_formed}
 use Rattle.network.proofs.Lists.{in_cases, in_left, in_right}
@@ -16,7 +15,7 @@ use Rattle.owned.proofs.Moves.{all_in, in_all}
 use Rattle.owned.specs.declared.owned.Owned.{Owned}
 use Rattle.owned.specs.Effects.{Admitted}
 use Rattle.slotted.specs.Indexes.{Listing, MayJoin, Sensible}
-use Rattle.owned.specs.Lists.{At, kept, listed, lost, own, text}
+use Rattle.owned.specs.Lists.{kept, listed, lost, own, text}
 use Rattle.slotted.specs.Tied.{meaning_of}
 use Rattle.slotted.proofs.Asks.{live_is}
 use Rattle.slotted.proofs.Fronts.{may_join}
