@@ -25,6 +25,7 @@ use Rattle.rules.specs.Good.{Good}
 use Rattle.rules.specs.Lawful.{Lawful}
 use Rattle.rules.specs.Work.{Work, own_of, each, add}
 use Rattle.rules.specs.Turns.{Turn, bve_turns}
+use Rattle.rules.specs.Bve.{bve_simplify}
 use Rattle.rules.specs.Calls.{start, started, begun, unless_loose, clauses_in, handed_out, words_out, Call, called}
 use Rattle.rules.specs.Theorem.{flags, Reached, Right, SameSettings, SmallTurn}
 use Rattle.rules.proofs.Theorem.{always_right, calls_lead_on, compared_alike, reached_sound}
@@ -118,6 +119,9 @@ module _ {S : Type 0} (meaning : S → Meaning) (ws : List ℕ) (s : Simplifier 
         negative = (uses_none (taken_in ws) t.at t.before m.good m.lawful).1;
       }
 
+  pub shrinks_of : live_clauses (bve_simplify U.work).store ≤ live_clauses U.work.store
+  shrinks_of = right.shrinks
+
   words_is : words_of meaning s ≡ words_out U.work
   unfolding words_out handed_out
   words_is = ap words_out (ap (λ W. record { top = W.top; frozen = W.frozen; store = W.store; values = W.values; out = [] }) U.shown.is)
@@ -198,3 +202,12 @@ module _ {S : Type 0} (meaning : S → Meaning) (ws : List ℕ) (s : Simplifier 
       λ k. settings_known (flags s.frozen) (words_of meaning s) (words_out V) (∥∥₁_map h (λ U. ((faithful_of meaning ws s U).compared us gs V R e).1 k)),
     );
   }
+
+-- what two of them hand out compares as the images that were taken in
+module _ {S T : Type 0} (meaning : S → Meaning) (other : T → Meaning) (ws us : List ℕ) (s : Simplifier S) (t : Simplifier T) where
+  pub compared : ∥ Underway meaning ws s ∥₁ → ∥ Underway other us t ∥₁ → ((n : ℕ) → flags s.frozen n ≡ flags t.frozen n)
+      → SameSettings (flags s.frozen) (words_of meaning s) (words_of other t) ↔ SameSettings (flags s.frozen) ws us
+  compared h k e = (
+    λ a. settings_known (flags s.frozen) ws us (∥∥₁_map k (λ U. ((faithful meaning ws s h).compared us t.frozen U.work U.reached e).0 (subst (SameSettings (flags s.frozen) (words_of meaning s)) (words_is other us t U) a))),
+    λ a. settings_known (flags s.frozen) (words_of meaning s) (words_of other t) (∥∥₁_map k (λ U. subst (SameSettings (flags s.frozen) (words_of meaning s)) (sym (words_is other us t U)) (((faithful meaning ws s h).compared us t.frozen U.work U.reached e).1 a))),
+  )

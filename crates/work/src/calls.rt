@@ -1,6 +1,6 @@
 ghost use Rattle.rules.specs.Calls.{bve_answer, const_answer, finalize_answer, simplify_answer, subsume_answer};
 ghost use Rattle.rules.specs.Store.{live_clauses};
-ghost use Rattle.std.specs.Prelude.{◌≡◌, ◌≤◌, ◌⊎◌, length, take, IfOk, OnErr};
+ghost use Rattle.std.specs.Prelude.{◌≡◌, ◌≤◌, ◌⊎◌, length, take, IfErr, IfOk, OnErr};
 ghost use Rattle.work.specs.Promises.{AllGone, Faithful, Keeps, SmallTurns};
 ghost use Rattle.work.specs.Shown.{Leads, Shows, Writes};
 ghost use Rattle.work.specs.Stubs.{counted};
@@ -53,6 +53,7 @@ impl<S: Store> Work<'_, S> {
         ensures answer { (W : _) → Shows S.meaning self.now.simplifier W → result ≡ counted (finalize_answer (length out.old) W) }
         ensures words { Writes S.meaning (finalize_answer (length out.old)) self.now.simplifier out.old out.new }
         ensures faithful { IfOk result (λ n. Faithful self.now.simplifier self.now.image.now (take n out.new)) }
+        ensures refused { IfErr result (λ f. (f.number ≡ 14) × (out.new ≡ out.old)) }
     {
         stubs::finalize(&self.simplifier, out)
     }
@@ -68,7 +69,7 @@ impl<S: Store> Work<'_, S> {
         ensures gone { AllGone S.meaning self.new.simplifier }
         ensures turns { (W : _) → Shows S.meaning self.old.simplifier W → SmallTurns (const_answer (length words.old) W).0 }
         ensures faithful { IfOk result (λ n. Faithful self.new.simplifier self.new.image.now (take n out.new)) }
-        ensures refused { (f : _) → result ≡ Err f → (f.number ≡ 14) ⊎ ((self.new.simplifier ≡ self.old.simplifier) × (words.new ≡ words.old)) }
+        ensures refused { IfErr result (λ f. (out.new ≡ out.old) × ((f.number ≡ 14) ⊎ ((self.new.simplifier ≡ self.old.simplifier) × (words.new ≡ words.old)))) }
     {
         self.const_simplify(words)?;
         self.bve_simplify(words)?;
