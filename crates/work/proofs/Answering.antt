@@ -40,6 +40,10 @@ module _ {S R : Type 0} (meaning : S → Meaning) (call : Work → Work × R) (s
       (λ out m. ap (λ p. (work_of meaning t p.0.out, r)) (sym (makes out)) ∙ makes out)
       (λ out m. subst (Marks t.taken_out) (ap (λ p. p.0.out) (makes out)) (subst (λ fs. Marks fs out) (sym kept) m))
 
+-- a call that was lent as many words
+pub lent_same : {S R : Type 0} (meaning : S → Meaning) (call : ℕ → Work → Work × R) (s t : Simplifier S) (r : R) (n k : ℕ) → k ≡ n → Leads meaning (call k) s t r → Leads meaning (call n) s t r
+lent_same meaning call s t r n k e L = subst (λ j. Leads meaning (call j) s t r) e L
+
 -- ## What is handed out
 
 -- what holds of the words that an answer gives holds of the front of the words lent to it
@@ -115,7 +119,7 @@ module _ {S : Type 0} (meaning : S → Meaning) (ws : List ℕ) (n : ℕ) (s t :
   enough_on W N K T V h = subst (λ r. leb (64 * r + 8192) n ≡ true) (ap (λ w. w.store.room) (sym T.is) ∙ sym K.room ∙ ap (λ w. w.store.room) V.is) h
 
 -- simplify, with the number of words that it writes
-abbrev simplifying : ℕ → ℕ → Work → Work × Result ℕ Fault
+abbrev pub simplifying : ℕ → ℕ → Work → Work × Result ℕ Fault
 simplifying n m W = ((simplify_answer n m W).0, counted (simplify_answer n m W).1)
 
 -- const_simplify is refused just where simplify is before its passes
@@ -178,11 +182,13 @@ module _ {S : Type 0} (meaning : S → Meaning) (n : ℕ) (s s₁ : Simplifier S
         is : (W : Work) → Shows meaning s W → simplify_answer n m W ≡ finalized m (simplified_work W)
         is W T = (granted_first n m W k (sym (L.answer W T))).2
 
-        pub done_rules : (r : Result ℕ Fault) → ((W : Work) → Shows meaning s₃ W → r ≡ counted (finalize_answer m W)) → Leads meaning (simplifying n m) s s₃ r
-        done_rules r F = record {
-          work = λ W T. subst (λ a. Shows meaning s₃ a.0) (sym (is W T)) (all_shown W T);
-          answer = λ W T. F (simplified_work W) (all_shown W T) ∙ ap (λ a. counted a.1) (sym (is W T));
-        }
-
-        pub done_words : (old new : List ℕ) → ((W : Work) → Shows meaning s₃ W → new ≡ left_in old (finalize_answer m W)) → (W : Work) → Shows meaning s W → new ≡ left_in old (simplify_answer n m W).1
-        done_words old new F W T = F (simplified_work W) (all_shown W T) ∙ ap (λ a. left_in old a.1) (sym (is W T))
+        -- simplify answers what finalize answers of what the passes left
+        pub done : (r : Result ℕ Fault) (old new : List ℕ) → ((W : Work) → Shows meaning s₃ W → r ≡ counted (finalize_answer m W)) → ((W : Work) → Shows meaning s₃ W → new ≡ left_in old (finalize_answer m W))
+            → Leads meaning (simplifying n m) s s₃ r × ((W : Work) → Shows meaning s W → new ≡ left_in old (simplify_answer n m W).1)
+        done r old new F G = (
+          record {
+            work = λ W T. subst (λ a. Shows meaning s₃ a.0) (sym (is W T)) (all_shown W T);
+            answer = λ W T. F (simplified_work W) (all_shown W T) ∙ ap (λ a. counted a.1) (sym (is W T));
+          },
+          λ W T. G (simplified_work W) (all_shown W T) ∙ ap (λ a. left_in old a.1) (sym (is W T)),
+        )
