@@ -1,5 +1,5 @@
 -- What is so of a simplifier that calls led to, and how it stays so. Assumes nothing.
-use Rattle.std.proofs.Common.{◌≡◌, ℕ, zero, suc, ◌/◌, ◌≤◌, leb, eqb, Bool, true, false, cond, not, ◌&&◌, ◌↔◌, List, [], ◌∷◌, ◌++◌, Ok, Err, Result, get_or, sym, refl, ap, ◌∙◌, subst, arith}
+use Rattle.std.proofs.Common.{◌≡◌, ℕ, zero, suc, ◌/◌, ◌≤◌, leb, eqb, Bool, true, false, cond, not, ◌&&◌, ◌↔◌, List, [], ◌∷◌, ◌++◌, Ok, Err, Result, get_or, replicate, Some, None, Option, sym, refl, ap, ◌∙◌, subst, arith}
 use Rattle.std.proofs.lemmas.Bool.{eq-eqb}
 use Rattle.std.proofs.Math.Logic.{∥∥₁_elim, ∥∥₁_map}
 use mathlib.Core.Path.{fun_ext}
@@ -16,7 +16,7 @@ use Rattle.network.specs.Values.{nothing}
 use Rattle.image.specs.Headers.{top}
 use Rattle.image.specs.Faults.{fault, tested, ◌then◌}
 use Rattle.image.specs.declared.fault.Fault.{Fault}
-use Rattle.intake.specs.Answers.{loose_nodes, loose_at, first_of}
+use Rattle.intake.specs.Answers.{accepts, loose_nodes, loose_at, first_of}
 use Rattle.intake.specs.Accepted.{taken_in, total}
 use Rattle.rules.specs.Store.{Meaning, emptied, live_clauses}
 use Rattle.rules.specs.Held.{held}
@@ -28,12 +28,13 @@ use Rattle.rules.specs.Turns.{Turn, bve_turns}
 use Rattle.rules.specs.Bve.{bve_simplify}
 use Rattle.rules.specs.Calls.{start, started, begun, unless_loose, clauses_in, handed_out, words_out, Call, called}
 use Rattle.rules.specs.Theorem.{flags, Reached, Right, SameSettings, SmallTurn}
-use Rattle.rules.proofs.Theorem.{always_right, calls_lead_on, compared_alike, reached_sound}
+use Rattle.rules.proofs.Theorem.{always_right, calls_lead_on, compared_alike, starts_well, reached_sound}
 use Rattle.rules.proofs.Calls.{Sound, after_sound}
 use Rattle.rules.proofs.Start.{Started, start_parts, start_nodes}
 use Rattle.rules.proofs.Unrefused.{Met, bve_met, takes_less, attempt_shrinks, uses_none}
 use Rattle.simplifier.specs.declared.state.Simplifier.{Simplifier}
 use Rattle.simplifier.specs.Shown.{work_of}
+use Rattle.work.specs.Stubs.{refused}
 use Rattle.work.specs.Shown.{Marks, Shows, Underway, Leads}
 use Rattle.work.specs.Promises.{Keeps, Gone, AllGone, SmallTurns, Faithful, words_of}
 use Rattle.work.proofs.Searching.{settings_known}
@@ -74,6 +75,45 @@ reached_by ws fs gs W e R = record {
   calls = R.calls;
   is = R.is;
 }
+
+-- ## Start
+
+-- a start that is not refused makes the work with every clause entered
+pub start_is : (ws : List ℕ) (fs : List Bool) (M : Meaning) (u : Unit {0}) → Ok u ≡ refused (start ws fs M) → start ws fs M ≡ Ok (started ws fs M)
+unfolding start
+start_is ws fs M u e = go (leb (suc (total ws (top ws))) (M.room / 2)) (first_of (loose_nodes ws fs (top ws))) e
+  where
+    go : (b : Bool) (o : Option ℕ) → Ok u ≡ refused (tested b (fault 11 (suc (total ws (top ws)))) then (λ _. unless_loose o (started ws fs M)))
+        → (tested b (fault 11 (suc (total ws (top ws)))) then (λ _. unless_loose o (started ws fs M))) ≡ Ok (started ws fs M)
+    go true None q = refl
+    go true (Some n) q = absurd (cc)
+    go false o q = absurd (cc)
+
+unset : (n k : ℕ) → flags (replicate n false) k ≡ false
+unset zero k = refl
+unset (suc n) zero = refl
+unset (suc n) (suc k) = unset n k
+
+module _ {S : Type 0} (meaning : S → Meaning) (ws : List ℕ) (fs : List Bool) (M : Meaning) (s : Simplifier S)
+    (is : work_of meaning s [] ≡ started ws fs M) (none : s.taken_out ≡ replicate 1024 false) where
+  pub shown_started : Shows meaning s (started ws fs M)
+  shown_started = subst (Shows meaning s) is (record { is = refl; marks = λ k. ap (λ t. flags t k) none ∙ unset 1024 k })
+
+  module _ (right : accepts ws ≡ true) (zero : flags fs 0 ≡ true) (starts : start ws fs M ≡ Ok (started ws fs M)) where
+    pub underway_started : Underway meaning ws s
+    underway_started = record {
+      work = started ws fs M;
+      shown = shown_started;
+      reached = reached_by ws fs s.frozen (started ws fs M) (sym (ap (λ W. W.frozen) is ∙ frozen_as ws fs (started ws fs M) R)) R;
+    }
+      where
+        R : Reached ws fs (started ws fs M)
+        R = record { right = right; zero = zero; store = M; first = started ws fs M; starts = starts; calls = []; is = refl }
+
+    pub half_free : live_clauses (meaning s.store) ≤ (meaning s.store).room / 2
+    half_free =
+        let w = starts_well ws fs M (started ws fs M) right zero starts in
+        subst (λ W. live_clauses W.store ≤ W.store.room / 2) (sym is) (subst (λ r. live_clauses (started ws fs M).store ≤ r / 2) (sym w.room) w.half_free)
 
 -- ## Nodes taken out
 
