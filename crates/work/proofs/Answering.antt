@@ -58,10 +58,10 @@ unwritten (Err f) r old new h e w = subst (λ q. IfErr q (λ f. (f.number ≡ 14
 
 module _ {S : Type 0} (meaning : S → Meaning) (s : Simplifier S) (r : Result ℕ Fault) (old new : List ℕ)
     (e : (out : List ℕ) → r ≡ counted (finalize_answer (length old) (work_of meaning s out))) (w : (out : List ℕ) → new ≡ left_in old (finalize_answer (length old) (work_of meaning s out))) where
-  pub faithful_front : (ws : List ℕ) → Faithful s ws (words_of meaning s) → IfOk r (λ n. Faithful s ws (take n new))
+  pub faithful_front : (ws : List ℕ) → Faithful meaning s ws (words_of meaning s) → IfOk r (λ n. Faithful meaning s ws (take n new))
   unfolding finalize_answer
-  faithful_front ws F = front (Faithful s ws) (finalize_answer (length old) (work_of meaning s [])) r old new
-      (cond_both (leb (length (words_of meaning s)) (length old)) (Ok (words_of meaning s)) _ (λ a. IfOk a (Faithful s ws)) (λ _. F) (λ _. tt)) (e []) (w [])
+  faithful_front ws F = front (Faithful meaning s ws) (finalize_answer (length old) (work_of meaning s [])) r old new
+      (cond_both (leb (length (words_of meaning s)) (length old)) (Ok (words_of meaning s)) _ (λ a. IfOk a (Faithful meaning s ws)) (λ _. F) (λ _. tt)) (e []) (w [])
 
   pub refused_front : IfErr r (λ f. (f.number ≡ 14) × (new ≡ old))
   unfolding finalize_answer

@@ -6,7 +6,7 @@ use mathlib.Core.Path.{fun_ext}
 use native.Mathlib.Bridge.{le_prop}
 use mathlib.Core.HLevel.{⊥_prop}
 use denote.Struct.Props.{≡_prop}
-use base.Stored.{coded_ℕ, coded_bool}
+use base.Stored.{coded_ℕ, coded_bool, coded_list}
 use Rattle.network.specs.Clauses.{has}
 use Rattle.network.specs.Lists.{In}
 use Rattle.network.specs.Networks.{Network, Free}
@@ -29,6 +29,7 @@ use Rattle.rules.specs.Bve.{bve_simplify}
 use Rattle.rules.specs.Calls.{start, started, begun, unless_loose, clauses_in, handed_out, words_out, Call, called}
 use Rattle.rules.specs.Theorem.{flags, Reached, Right, SameSettings, SmallTurn}
 use Rattle.rules.proofs.Theorem.{always_right, calls_lead_on, compared_alike, starts_well, reached_sound}
+use Rattle.rules.proofs.Words.{words_read}
 use Rattle.rules.proofs.Calls.{Sound, after_sound}
 use Rattle.rules.proofs.Start.{Started, start_parts, start_nodes}
 use Rattle.rules.proofs.Unrefused.{Met, bve_met, takes_less, attempt_shrinks, uses_none}
@@ -162,17 +163,27 @@ module _ {S : Type 0} (meaning : S → Meaning) (ws : List ℕ) (s : Simplifier 
   pub shrinks_of : live_clauses (bve_simplify U.work).store ≤ live_clauses U.work.store
   shrinks_of = right.shrinks
 
+  unordered : work_of meaning s [] ≡ record { top = U.work.top; frozen = U.work.frozen; store = U.work.store; values = U.work.values; out = [] }
+  unordered = ap (λ W. record { top = W.top; frozen = W.frozen; store = W.store; values = W.values; out = [] }) U.shown.is
+
   words_is : words_of meaning s ≡ words_out U.work
   unfolding words_out handed_out
-  words_is = ap words_out (ap (λ W. record { top = W.top; frozen = W.frozen; store = W.store; values = W.values; out = [] }) U.shown.is)
+  words_is = ap words_out unordered
 
-  faithful_of : Faithful s ws (words_of meaning s)
-  faithful_of = record {
-    settings = subst (λ vs. SameSettings (flags s.frozen) vs ws) (sym words_is) right.settings;
-    unnamed = λ v e C i. right.gone.handed v (out_in v e) C (subst (λ vs. In C (clauses_in vs)) words_is i);
-    compared = λ us gs V R e. subst (λ vs. SameSettings (flags s.frozen) vs (words_out V) ↔ SameSettings (flags s.frozen) ws us) (sym words_is)
-        (compared_alike ws us s.frozen gs U.work V U.reached R e);
-  }
+  zero_handed : handed_out (work_of meaning s []) 0 ≡ (1 ∷ []) ∷ []
+  unfolding handed_out
+  zero_handed = ap (λ W. handed_out W 0) unordered ∙ sym (right.read.network 0 (omega arith))
+
+  settings_of : SameSettings (flags s.frozen) (words_of meaning s) ws
+  settings_of = subst (λ vs. SameSettings (flags s.frozen) vs ws) (sym words_is) right.settings
+
+  unnamed_of : (v : ℕ) → flags s.taken_out v ≡ true → (C : List ℕ) → In C (clauses_in (words_of meaning s)) → Free v C
+  unnamed_of v e C i = right.gone.handed v (out_in v e) C (subst (λ vs. In C (clauses_in vs)) words_is i)
+
+  compared_of : (us : List ℕ) (gs : List Bool) (V : Work) → Reached us gs V → ((n : ℕ) → flags s.frozen n ≡ flags gs n)
+      → SameSettings (flags s.frozen) (words_of meaning s) (words_out V) ↔ SameSettings (flags s.frozen) ws us
+  compared_of us gs V R e = subst (λ vs. SameSettings (flags s.frozen) vs (words_out V) ↔ SameSettings (flags s.frozen) ws us) (sym words_is)
+      (compared_alike ws us s.frozen gs U.work V U.reached R e)
 
 -- ## Calls
 
@@ -233,13 +244,14 @@ module _ {S : Type 0} (meaning : S → Meaning) (ws : List ℕ) (s : Simplifier 
     negative = ∥∥₁_elim h (≡_prop coded_ℕ _ _) (λ U. (turns_of meaning ws s U W T t i).negative);
   }
 
-  pub faithful : Faithful s ws (words_of meaning s)
+  pub faithful : Faithful meaning s ws (words_of meaning s)
   faithful = record {
-    settings = settings_known (flags s.frozen) (words_of meaning s) ws (∥∥₁_map h (λ U. (faithful_of meaning ws s U).settings));
-    unnamed = λ v e C i x j q. ∥∥₁_elim h ⊥_prop (λ U. (faithful_of meaning ws s U).unnamed v e C i x j q);
+    read = words_read (work_of meaning s []) s.small (∥∥₁_elim h (≡_prop (coded_list (coded_list coded_ℕ)) _ _) (λ U. zero_handed meaning ws s U));
+    settings = settings_known (flags s.frozen) (words_of meaning s) ws (∥∥₁_map h (λ U. settings_of meaning ws s U));
+    unnamed = λ v e C i x j q. ∥∥₁_elim h ⊥_prop (λ U. unnamed_of meaning ws s U v e C i x j q);
     compared = λ us gs V R e. (
-      λ k. settings_known (flags s.frozen) ws us (∥∥₁_map h (λ U. ((faithful_of meaning ws s U).compared us gs V R e).0 k)),
-      λ k. settings_known (flags s.frozen) (words_of meaning s) (words_out V) (∥∥₁_map h (λ U. ((faithful_of meaning ws s U).compared us gs V R e).1 k)),
+      λ k. settings_known (flags s.frozen) ws us (∥∥₁_map h (λ U. (compared_of meaning ws s U us gs V R e).0 k)),
+      λ k. settings_known (flags s.frozen) (words_of meaning s) (words_out V) (∥∥₁_map h (λ U. (compared_of meaning ws s U us gs V R e).1 k)),
     );
   }
 

@@ -6,7 +6,7 @@ use Rattle.rules.specs.Store.{Meaning}
 use Rattle.rules.specs.Work.{Work}
 use Rattle.rules.specs.Turns.{Turn, bve_turns}
 use Rattle.rules.specs.Calls.{clauses_in, words_out}
-use Rattle.rules.specs.Theorem.{flags, Reached, SameSettings, SmallTurn}
+use Rattle.rules.specs.Theorem.{flags, Reached, ReadAs, SameSettings, SmallTurn}
 use Rattle.simplifier.specs.declared.state.Simplifier.{Simplifier}
 use Rattle.simplifier.specs.Shown.{work_of}
 
@@ -35,7 +35,9 @@ abbrev pub words_of : {S : Type 0} → (S → Meaning) → Simplifier S → List
 words_of meaning s = words_out (work_of meaning s [])
 
 -- the image vs, handed out by s, is right for the image ws taken in
-pub record Faithful {S : Type 0} (s : Simplifier S) (ws vs : List ℕ) : Type 0 where
+pub record Faithful {S : Type 0} (meaning : S → Meaning) (s : Simplifier S) (ws vs : List ℕ) : Type 0 where
+  -- it is read, header and runs, as exactly the clauses that s hands out
+  pub read : ReadAs (work_of meaning s []) vs
   -- it admits exactly the settings of the frozen nodes that the image taken in admits
   pub settings : SameSettings (flags s.frozen) vs ws
   -- it names no node that was taken out

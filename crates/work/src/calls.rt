@@ -52,7 +52,7 @@ impl<S: Store> Work<'_, S> {
     pub fn finalize(&self, out: &mut [u32]) -> Result<u32, Fault>
         ensures answer { (W : _) → Shows S.meaning self.now.simplifier W → result ≡ counted (finalize_answer (length out.old) W) }
         ensures words { Writes S.meaning (finalize_answer (length out.old)) self.now.simplifier out.old out.new }
-        ensures faithful { IfOk result (λ n. Faithful self.now.simplifier self.now.image.now (take n out.new)) }
+        ensures faithful { IfOk result (λ n. Faithful S.meaning self.now.simplifier self.now.image.now (take n out.new)) }
         ensures refused { IfErr result (λ f. (f.number ≡ 14) × (out.new ≡ out.old)) }
     {
         stubs::finalize(&self.simplifier, out)
@@ -68,7 +68,7 @@ impl<S: Store> Work<'_, S> {
         ensures keeps { Keeps S.meaning self.old.simplifier self.new.simplifier }
         ensures gone { AllGone S.meaning self.new.simplifier }
         ensures turns { (W : _) → Shows S.meaning self.old.simplifier W → SmallTurns (const_answer (length words.old) W).0 }
-        ensures faithful { IfOk result (λ n. Faithful self.new.simplifier self.new.image.now (take n out.new)) }
+        ensures faithful { IfOk result (λ n. Faithful S.meaning self.new.simplifier self.new.image.now (take n out.new)) }
         ensures refused { IfErr result (λ f. (out.new ≡ out.old) × ((f.number ≡ 14) ⊎ ((self.new.simplifier ≡ self.old.simplifier) × (words.new ≡ words.old)))) }
     {
         self.const_simplify(words)?;

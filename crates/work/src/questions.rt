@@ -16,7 +16,7 @@ impl<S: Store> Work<'_, S> {
         self.simplifier.top
     }
 
-    // Whether a node is frozen; none is past the highest.
+    // Whether a node is frozen.
     pub fn is_frozen(&self, node: u32) -> bool
         ensures { result ≡ slice_index_or self.now.simplifier.frozen node false }
     {
@@ -26,7 +26,7 @@ impl<S: Store> Work<'_, S> {
             .is_some_and(|frozen| *frozen)
     }
 
-    // What is known of a node's value; nothing past the highest.
+    // What is known of a node's value.
     pub fn value(&self, node: u32) -> Lbool
         ensures { told result ≡ values_of self.now.simplifier.values node }
     {
