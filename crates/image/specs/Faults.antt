@@ -1,10 +1,10 @@
 -- Refusals: a number from the table, and a place. 1 head, 2 cut, 3 order, 4 owner, 5 wide, 6 clash, 7 count, 8 stranger,
--- 9 room, 10 short.
+-- 9 room, 10 short, 11 full, 12 loose, 13 half, 14 margin.
 -- Assumes nothing.
 use Rattle.std.specs.Prelude.{ℕ, Bool, cond, Ok, Err, Result}
 use Rattle.image.specs.declared.fault.Fault.{Fault}
 use Rattle.image.specs.declared.fault.Refusal.{Refusal}
-use Rattle.image.specs.declared.fault.Refusal.TheVariants.{Head, Cut, Order, Owner, Wide, Clash, Count, Stranger, Room, Short}
+use Rattle.image.specs.declared.fault.Refusal.TheVariants.{Head, Cut, Order, Owner, Wide, Clash, Count, Stranger, Room, Short, Full, Loose, Half, Margin}
 
 -- the refusal with number n at the place p
 abbrev pub fault : ℕ → ℕ → Fault
@@ -22,6 +22,10 @@ number_of Count = 7
 number_of Stranger = 8
 number_of Room = 9
 number_of Short = 10
+number_of Full = 11
+number_of Loose = 12
+number_of Half = 13
+number_of Margin = 14
 
 -- go on with what was found, or stop at the refusal
 infixr 20 ◌then◌

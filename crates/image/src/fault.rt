@@ -42,8 +42,16 @@ pub enum Refusal {
     Stranger = 8,
     // A room is odd, under 2 or over 4,096; place the room.
     Room = 9,
-    // A store is lent too few words; place the number it needs.
+    // A store or a pass is lent too few words; place the number it needs.
     Short = 10,
+    // An image has too many clauses for the room; place their number, with node 0's.
+    Full = 11,
+    // A node that is not frozen is loose; place the lowest.
+    Loose = 12,
+    // More than half of the room is live; place the number of live clauses.
+    Half = 13,
+    // The output is too small for the image; place the number of words that it needs.
+    Margin = 14,
 }
 
 impl Refusal {

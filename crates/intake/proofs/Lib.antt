@@ -4,3 +4,4 @@ pub mod Meanings
 pub mod Exactness
 pub mod LooseNodes
 pub mod Examples
+pub mod Counts

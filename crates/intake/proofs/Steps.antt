@@ -146,7 +146,7 @@ nodes_at ws (suc m) c k h l =
 abbrev pub Counting : List ℕ → ℕ → ℕ → Type 0
 Counting ws k c = (nodes_answer ws k ≡ Ok c) × (c ≤ offset ws k)
 
-run_length : (ws : List ℕ) (k : ℕ) → k < top ws → length (run ws (suc k)) ≤ offset ws (suc k) - offset ws k
+pub run_length : (ws : List ℕ) (k : ℕ) → k < top ws → length (run ws (suc k)) ≤ offset ws (suc k) - offset ws k
 run_length ws k l = omega (arith, ap length (run_is ws k l), length-take (offset ws (suc k) - offset ws k) (drop (offset ws k) ws))
 
 pub counting_on : (ws : List ℕ) (k c d : ℕ) → Head ws → k < top ws → Counting ws k c → Ok d ≡ node_answer (suc k) (run ws (suc k)) → Counting ws (suc k) (c + d) × (c + d ≤ length ws)

@@ -1,4 +1,4 @@
-ghost use Rattle.std.specs.Prelude.{◌≡◌, ◌≤◌, true, false, not, ◌&&◌, IfOk, Ok, Err, Result as ResultT, slice_index_or, slice_set};
+ghost use Rattle.std.specs.Prelude.{◌≡◌, ◌<◌, ◌≤◌, true, false, not, ◌&&◌, IfOk, Ok, Err, Result as ResultT, slice_index_or, slice_set};
 ghost use Rattle.image.specs.Headers.{run as run_of, top as top_of};
 ghost use Rattle.image.specs.declared.fault.Fault.{Fault as FaultT};
 ghost use Rattle.intake.specs.Accepted.{Answers as Means, total};
@@ -59,11 +59,15 @@ impl<'i> Intake<'i> {
         }
     }
 
-    // The number of clauses besides node 0's.
+    // The number of clauses besides node 0's; one more can be counted.
     pub fn clause_count(&self) -> u32
-        ensures { result ≡ total self.now.image.now (top_of self.now.image.now) }
+        ensures count { result ≡ total self.now.image.now (top_of self.now.image.now) }
+        ensures few { result < 4294967295 }
     {
-        self.image[1]
+        let count = self.image[1];
+        // Each clause has a word at least, and the last offset is the number of words.
+        prove!(count < self.image[self.top() as usize + 2]);
+        count
     }
 
     // Whether a node is frozen.

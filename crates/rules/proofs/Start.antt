@@ -20,7 +20,7 @@ use Rattle.intake.specs.Answers.{accepts, loose_nodes, first_of}
 use Rattle.intake.specs.Accepted.{Image, taken_in, total}
 use Rattle.intake.proofs.Steps.{accepted_answer, then_ok, cond_ok}
 use Rattle.intake.proofs.Meanings.{accepted_iff}
-use Rattle.intake.proofs.LooseNodes.{ready_to_start}
+use Rattle.intake.proofs.LooseNodes.{every_node_has_a_value, ready_to_start}
 use Rattle.rules.specs.Kept.{obey, Kept}
 use Rattle.rules.specs.Store.{Meaning, from, up_to, live_clauses, kept_clauses, entered}
 use Rattle.rules.specs.Held.{held}
@@ -49,6 +49,11 @@ use Rattle.rules.proofs.Facts.{none_some}
 unfoldable pub by_owner : List (List ℕ) → Network
 by_owner Cs k = filter (λ C. eqb (owner C) k) Cs
 
+-- one number more
+pub from_more : (t i : ℕ) → from i (suc t) ≡ from i t ++ ((i + t) ∷ [])
+from_more zero i = ap (λ k. k ∷ []) (omega arith)
+from_more (suc t) i = ap (λ ks. i ∷ ks) (from_more t (suc i) ∙ ap (λ k. from (suc i) t ++ (k ∷ [])) (omega arith))
+
 pub from_in : (m i k : ℕ) → In k (from i m) → (i ≤ k) × (k < i + m)
 from_in zero i k h = absurd h
 from_in (suc m) i k h = ⊎_elim (λ e. (omega arith, omega arith)) (λ j. let (a, b) = from_in m (suc i) k j in (omega arith, omega arith)) h
@@ -71,16 +76,18 @@ distinct_nodes (x ∷ C) (lo, o) = ((λ i. let (y, j, e) = map_in node (node x) 
 narrow_short : (C xs : List ℕ) → Ordered C → ((l : ℕ) → In l C → In (node l) xs) → length C ≤ length xs
 narrow_short C xs o h = omega (arith, length-map C node, pigeons (map node C) xs (distinct_nodes C o) (λ k i. let (l, j, e) = map_in node k C i in subst (λ n. In n xs) (sym e) (h l j)))
 
+-- a clause of an accepted image is short
+pub clause_short : (ws : List ℕ) → Image ws → (k : ℕ) (C : List ℕ) → In C (taken_in ws k) → length C ≤ 32
+clause_short ws I zero C i = ⊎_elim (λ e. omega (arith, ap length e)) absurd i
+clause_short ws I (suc k) C i =
+    let placed = (every_node_has_a_value ws I).0 in
+    let (xs, few, covers) = (I.nodes k (omega (arith, placed.small (suc k) C i))).narrow in
+    let h = narrow_short C (0 ∷ suc k ∷ xs) (placed.order (suc k) C i) (λ l j. ⊎_elim inl (λ r. inr (⊎_elim inl inr r)) (covers C i l j)) in
+    omega (arith, h, few)
+
 module _ (ws : List ℕ) (I : Image ws) (fs : List Bool) (z : get_or fs 0 false ≡ true) (G : Gates (taken_in ws) (suc (top ws)) (λ n. get_or fs n false)) where
   abbrev first : Network
   first = taken_in ws
-
-  clause_short : (k : ℕ) (C : List ℕ) → In C (first k) → length C ≤ 32
-  clause_short zero C i = ⊎_elim (λ e. omega (arith, ap length e)) absurd i
-  clause_short (suc k) C i =
-      let (xs, few, covers) = (I.nodes k (omega (arith, G.placed.small (suc k) C i))).narrow in
-      let h = narrow_short C (0 ∷ suc k ∷ xs) (G.placed.order (suc k) C i) (λ l j. ⊎_elim inl (λ r. inr (⊎_elim inl inr r)) (covers C i l j)) in
-      omega (arith, h, few)
 
   in_clauses : (k : ℕ) (C : List ℕ) → In C (first k) → In C (clauses_in ws)
   unfolding clauses_in
@@ -241,10 +248,6 @@ module _ (ws : List ℕ) (I : Image ws) (fs : List Bool) (z : get_or fs 0 false 
         }
 
     -- how many clauses are entered
-    from_more : (t i : ℕ) → from i (suc t) ≡ from i t ++ ((i + t) ∷ [])
-    from_more zero i = ap (λ k. k ∷ []) (omega arith)
-    from_more (suc t) i = ap (λ ks. i ∷ ks) (from_more t (suc i) ∙ ap (λ k. from (suc i) t ++ (k ∷ [])) (omega arith))
-
     total_is : (k : ℕ) → length (flat_map (taken_in ws) (from 1 k)) ≡ total ws k
     total_is zero = refl
     total_is (suc k) = ap (λ xs. length (flat_map (taken_in ws) xs)) (from_more k 1) ∙ ap length (flat_map-append (taken_in ws) (from 1 k) ((1 + k) ∷ [])) ∙ length-append (flat_map (taken_in ws) (from 1 k)) (flat_map (taken_in ws) ((1 + k) ∷ []))
@@ -260,7 +263,7 @@ module _ (ws : List ℕ) (I : Image ws) (fs : List Bool) (z : get_or fs 0 false 
 
       accepted : (each tested_work.add (clauses_in ws) (begun ws fs M) ≡ each add (clauses_in ws) (begun ws fs M)) × AllAccepted (entries (clauses_in ws) (begun ws fs M))
       accepted = adds_accepted (clauses_in ws) (begun ws fs M)
-          (good_formed first (each add (clauses_in ws) (begun ws fs M)) plain_good (adds_short (clauses_in ws) (begun ws fs M) (λ C i. let (k, j) = clauses_at C i in clause_short k C j) (λ l C i. absurd i)))
+          (good_formed first (each add (clauses_in ws) (begun ws fs M)) plain_good (adds_short (clauses_in ws) (begun ws fs M) (λ C i. let (k, j) = clauses_at C i in clause_short ws I k C j) (λ l C i. absurd i)))
           (omega (arith, none_live, entered_count, enough))
 
       pub start_good : Good first (started ws fs M)

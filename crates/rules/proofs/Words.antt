@@ -22,7 +22,7 @@ before zero Rs = 0
 before (suc k) [] = 0
 before (suc k) (r ∷ Rs) = length r + before k Rs
 
-ends_length : (Rs : List (List ℕ)) (a : ℕ) → length (ends a Rs) ≡ length Rs
+pub ends_length : (Rs : List (List ℕ)) (a : ℕ) → length (ends a Rs) ≡ length Rs
 ends_length [] a = refl
 ends_length (r ∷ Rs) a = ap suc (ends_length Rs (a + length r))
 

@@ -1,5 +1,5 @@
 -- The work, in the words of the rules, that a simplifier is at. Assumes nothing.
-use Rattle.std.specs.Prelude.{ℕ, Bool, false, List, slice_index_or}
+use Rattle.std.specs.Prelude.{ℕ, false, List, slice_index_or}
 use Rattle.clause.specs.Types.{values_of}
 use Rattle.rules.specs.Store.{Meaning}
 use Rattle.rules.specs.Work.{Work}

@@ -1,0 +1,3 @@
+pub mod Sizes
+pub mod Writing
+pub mod Outcome

@@ -1,0 +1,2 @@
+pub mod Clearings
+pub mod Entries

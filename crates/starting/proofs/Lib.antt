@@ -1,0 +1,4 @@
+pub mod Refusals
+pub mod Blanks
+pub mod Entering
+pub mod Nodes
