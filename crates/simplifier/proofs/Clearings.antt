@@ -1,7 +1,6 @@
 -- A clearing by marks that stand in words, step by step. Assumes nothing.
-use Rattle.std.proofs.Common.{◌≡◌, ℕ, suc, ◌+◌, ◌-◌, ◌<◌, ◌≤◌, Bool, true, false, eqb, ltb, List, ◌++◌, length, map, get_or, set, replicate, Some, None, Option, sym, ap, ◌∙◌, subst, ⊎_elim, arith, length-append}
+use Rattle.std.proofs.Common.{◌≡◌, ℕ, suc, ◌+◌, ◌-◌, ◌<◌, ◌≤◌, Bool, true, false, eqb, ltb, List, ◌++◌, length, map, get_or, set, replicate, sym, ap, ◌∙◌, ⊎_elim, arith, length-append}
 use Rattle.std.specs.List.{range_with_len, swap_remove}
-use Rattle.std.specs.Option.{option_flatten}
 use Rattle.std.proofs.lemmas.Bool.{both_ways, cases_eq, cases_lt, cond-true, cond-false, lt-ltb}
 use Rattle.std.proofs.lemmas.Grind.{get_or-set_at}
 use Rattle.std.proofs.lemmas.List.{ext_get_or, get_or_past, get_or-map, get_or-replicate, get_or-set_other, get_or_append_left, get_or-append_right, length-map, length-replicate, append-nil}
@@ -11,30 +10,6 @@ use Rattle.rules.specs.Work.{cleared, clear, clear_all}
 use Rattle.rules.proofs.Index.{removed_length, swap_length, swap_here, swap_other}
 use Rattle.simplifier.specs.Marks.{marked}
 
--- a cursor along own l, at place i: a handle of the clause there, or nothing where there is none
-abbrev pub Cursor : {H : Type 0} → (H → ℕ → ℕ → Type 0) → Meaning → ℕ → ℕ → Option H → Type 0
-Cursor at M l i o = elim o [ None ↦ length (M.own l) ≡ i | Some h ↦ (at h l i) × (i < length (M.own l)) ]
-
--- what a removal at that place answers
-abbrev pub Answered : {H : Type 0} → (H → ℕ → ℕ → Type 0) → Meaning → ℕ → ℕ → Option (Option H) → Type 0
-Answered at M l i r = elim r [ None ↦ ⊥ | Some o ↦ Cursor at M l i o ]
-
-module _ {H : Type 0} (at : H → ℕ → ℕ → Type 0) (M : Meaning) (l i : ℕ) where
-  pub on_some : (o : Option H) (h : H) → o ≡ Some h → Cursor at M l i o → (at h l i) × (i < length (M.own l))
-  on_some o h e c = subst (Cursor at M l i) e c
-
-  pub on_none : (o : Option H) → o ≡ None → Cursor at M l i o → length (M.own l) ≡ i
-  on_none o e c = subst (Cursor at M l i) e c
-
-  -- the cursor that a removal leaves
-  pub on_removed : (r : Option (Option H)) (o : Option H) → o ≡ option_flatten r → Answered at M l i r → Cursor at M l i o
-  on_removed r o e c = subst (Cursor at M l i) (sym e) (go r c)
-    where
-      go : (r : Option (Option H)) → Answered at M l i r → Cursor at M l i (option_flatten r)
-      go None c = absurd c
-      go (Some None) c = c
-      go (Some (Some h)) c = c
-
 -- whether the word at a place marks it
 abbrev marks_at : List ℕ → ℕ → Bool
 marks_at ws j = eqb (get_or ws j 0) 1
@@ -43,7 +18,7 @@ marks_at ws j = eqb (get_or ws j 0) 1
 unfoldable pub marks_below : ℕ → List ℕ → List Bool
 marks_below n ws = map (marks_at ws) (range_with_len 0 n)
 
-pub mark_at : (n : ℕ) (ws : List ℕ) (j : ℕ) → j < n → get_or (marks_below n ws) j false ≡ eqb (get_or ws j 0) 1
+mark_at : (n : ℕ) (ws : List ℕ) (j : ℕ) → j < n → get_or (marks_below n ws) j false ≡ eqb (get_or ws j 0) 1
 unfolding marks_below
 mark_at n ws j lt = get_or-map-range_with_len (marks_at ws) 0 n j j false lt (omega arith)
 

@@ -1,2 +1,3 @@
 pub mod Clearings
+pub mod Cursors
 pub mod Entries

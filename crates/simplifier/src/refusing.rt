@@ -4,10 +4,9 @@ ghost use Rattle.rules.specs.Calls.{need};
 ghost use Rattle.rules.specs.Store.{live_clauses};
 ghost use Rattle.simplifier.specs.Shown.{work_of};
 
+use crate::state::Simplifier;
 use image::fault::{Fault, Refusal};
 use store::lists::Lists;
-
-use crate::state::Simplifier;
 
 impl<S: Lists> Simplifier<S> {
     // Refuses with 10, at the number that it needs, a pass that is lent too few working words.

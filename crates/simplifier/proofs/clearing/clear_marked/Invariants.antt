@@ -1,7 +1,8 @@
 use Rattle.std.proofs.Common.{◌≡◌, ◌-◌, ◌≤◌, length}
 use Rattle.rules.specs.Work.{clear, cleared}
 use Rattle.simplifier.specs.Marks.{marked}
-use Rattle.simplifier.proofs.Clearings.{Cursor, marks_below}
+use Rattle.simplifier.proofs.Clearings.{marks_below}
+use Rattle.simplifier.proofs.Cursors.{Cursor}
 use Rattle.simplifier.proofs.clearing.clear_marked.Given as goal
 
 abbrev pub invariant-loop-at : goal.invariant-loop-at

@@ -1,6 +1,6 @@
 use Rattle.std.proofs.Common.{◌≡◌, length}
 use Rattle.rules.specs.Work.{clear_all}
-use Rattle.simplifier.proofs.Clearings.{Cursor}
+use Rattle.simplifier.proofs.Cursors.{Cursor}
 use Rattle.simplifier.proofs.clearing.clear_whole.Given as goal
 
 abbrev pub invariant-loop-first : goal.invariant-loop-first

@@ -1,0 +1,4 @@
+pub mod Calls
+pub mod Judges
+pub mod Lasts
+pub mod Nodes
