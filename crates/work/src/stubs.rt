@@ -1,4 +1,4 @@
-// What other crates do: the passes, and what starts and hands out. The crate `elimination` is not here yet.
+// What other crates do: the passes, and what starts and hands out.
 ghost use Rattle.network.specs.Clauses.{has};
 ghost use Rattle.rules.specs.Calls.{bve_answer};
 ghost use Rattle.simplifier.specs.Shown.{work_of};
@@ -18,5 +18,5 @@ pub(crate) fn bve_simplify<S: Store>(s: &mut Simplifier<S>, words: &mut [u32]) -
     ensures marks { (out : List ℕ) → ((k : ℕ) → slice_index_or s.old.taken_out k false ≡ has k out) → (k : ℕ) → slice_index_or s.new.taken_out k false ≡ has k (bve_answer (length words.old) (work_of S.meaning s.old out)).0.out }
     ensures refused { OnErr result ((s.new ≡ s.old) × (words.new ≡ words.old)) }
 {
-    Ok((0, 0))
+    elimination::bve_simplify(s, words)
 }
