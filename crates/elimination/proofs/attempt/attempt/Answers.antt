@@ -36,7 +36,7 @@ returns-clause-makes g c out =
     c.settle.ensures.made (n ∷ out)
     ∙ ap (λ Cs. each add Cs (work_of g.S.Lists.meaning c.take_out.new.s (n ∷ out))) (all_owed g (goal.at.returns-clause-makes g c).After-settle)
     ∙ ap (each add (lemmas Rs)) (c.take_out.ensures.ruled c.requires.small c.requires.indexed out)
-    ∙ sym (takes n W c.in-Some.cost (c.in-Some.ensures W refl refl) c.args.words.now c.in-Some-lemmas_of.count c.in-Some-lemmas_of.ensures.number).0
+    ∙ sym (takes n W c.in-Some.cost (c.in-Some.ensures W refl refl) c.args.words.now c.in-Some-lemmas_of.count c.in-Some-lemmas_of.ensures.number)
 
 pub returns-clause-top : goal.returns-clause-top
 returns-clause-top g c = ap (λ (W : Work). W.top) (returns-clause-makes g c []) ∙ attempt_top c.args.node (work_of g.S.Lists.meaning c.args.s.now [])
