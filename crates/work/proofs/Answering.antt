@@ -17,7 +17,7 @@ use Rattle.rules.specs.Calls.{need, lent, half, with_live, with_out, finalized, 
 use Rattle.rules.specs.Theorem.{flags}
 use Rattle.simplifier.specs.declared.state.Simplifier.{Simplifier}
 use Rattle.simplifier.specs.Shown.{work_of}
-use Rattle.work.specs.Stubs.{counted, left_in}
+use Rattle.handing_out.specs.Outcome.{counted, left_in}
 use Rattle.work.specs.Shown.{Marks, Shows, Underway, Leads}
 use Rattle.work.specs.Promises.{Keeps, Faithful, words_of}
 use Rattle.work.proofs.Reaching.{shrinks_of}

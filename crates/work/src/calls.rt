@@ -3,7 +3,7 @@ ghost use Rattle.rules.specs.Store.{live_clauses};
 ghost use Rattle.std.specs.Prelude.{◌≡◌, ◌≤◌, ◌⊎◌, length, take, IfErr, IfOk, OnErr};
 ghost use Rattle.work.specs.Promises.{AllGone, Faithful, Keeps, SmallTurns};
 ghost use Rattle.work.specs.Shown.{Leads, Shows, Writes};
-ghost use Rattle.work.specs.Stubs.{counted};
+ghost use Rattle.handing_out.specs.Outcome.{counted};
 
 use crate::state::Work;
 use crate::stubs;
