@@ -3,6 +3,7 @@ use input::opening::open_bytes;
 use intake::state::Intake;
 use scanned::making::scanned;
 use std::alloc::{AllocError, Global};
+use store::store::Store;
 use work::state::Work;
 
 // The room of the store.
@@ -17,6 +18,19 @@ const WORKING_WORDS: usize = 64 * 128 + 8192;
 // The most words of an image that is handed out: a header for 1,024 nodes, and a clause of at most 33 words for each that is kept and
 // one of 2 words for each node with a value.
 const OUT_WORDS: usize = 1026 + 33 * 128 + 2 * 1024;
+
+// Simplifies the network of an intake over a store, and says how many words its image has at the front of `out`; or refuses it.
+fn simplify<S: Store + Drop>(
+    intake: Intake<'_>,
+    store: S,
+    working: &mut [u32],
+    out: &mut [u32],
+) -> Result<u32, Fault> {
+    match Work::start(intake, store) {
+        Ok(mut work) => work.simplify(working, out),
+        Err((_, _, fault)) => Err(fault),
+    }
+}
 
 // The words that a simplification is lent.
 #[derive(Drop)]
@@ -42,11 +56,8 @@ impl Lent {
         let mut intake = Intake::smallest();
         open_bytes(bytes, &mut words, &mut intake)?;
         let store = scanned(self.store.as_mut_slice(), ROOM);
-        let mut work = match Work::start(intake, store) {
-            Ok(work) => work,
-            Err((_, _, fault)) => return Err(fault),
-        };
-        let count = work.simplify(self.working.as_mut_slice(), self.out.as_mut_slice())?;
+        let working = self.working.as_mut_slice();
+        let count = simplify(intake, store, working, self.out.as_mut_slice())?;
         Ok(self.out.get(..count as usize).unwrap_or(&[]))
     }
 }
