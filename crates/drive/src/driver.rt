@@ -6,7 +6,7 @@ use crate::shown::{show_numbers, show_work};
 use image::fault::Fault;
 use intake::state::Intake;
 use intake::taken::take_in;
-use std::alloc::{AllocError, Global};
+use std::alloc::AllocError;
 use std::fmt::Write;
 use store::store::Store;
 use work::state::Work;
@@ -29,24 +29,25 @@ fn tell_live(answer: Result<u32, Fault>, text: &mut String) -> Result<(), AllocE
     }
 }
 
-// The nodes that were taken out.
-fn taken_out<S: Store>(heap: Global, work: &Work<'_, S>) -> Result<Vec<u32>, AllocError> {
-    (0..=work.top())
-        .filter(|node| work.is_taken_out(*node))
-        .collect(heap)
+// Which nodes are taken out.
+fn taken_out<S: Store>(work: &Work<'_, S>) -> [bool; 1024] {
+    let mut flags = [false; 1024];
+    for node in 0..1024 {
+        flags[node as usize] = work.is_taken_out(node);
+    }
+    flags
 }
 
 // Tells the nodes that were taken out since, rising.
-fn tell_taken_out<S: Store>(
-    heap: Global,
-    work: &Work<'_, S>,
-    before: &Vec<u32>,
+fn tell_taken_out(
+    before: &[bool; 1024],
+    now: &[bool; 1024],
     text: &mut String,
 ) -> Result<(), AllocError> {
     let mut between = "";
     write!(text, " [")?;
-    for node in taken_out(heap, work)?.iter() {
-        if !before.contains(node) {
+    for node in 0..1024 {
+        if now[node] && !before[node] {
             write!(text, "{between}{node}")?;
             between = " ";
         }
@@ -56,17 +57,15 @@ fn tell_taken_out<S: Store>(
 
 // Calls `bve_simplify`, and tells its answer and the nodes that it took out.
 fn eliminate<S: Store>(
-    heap: Global,
     work: &mut Work<'_, S>,
-    lent: &mut Lent,
+    working: &mut [u32],
     text: &mut String,
 ) -> Result<(), AllocError> {
-    let before = taken_out(heap, work)?;
-    let count = working_words(work.room());
-    match work.bve_simplify(first(lent.working.as_mut_slice(), count)) {
+    let before = taken_out(work);
+    match work.bve_simplify(working) {
         Ok((out, live)) => {
             write!(text, "out {out} live {live}")?;
-            tell_taken_out(heap, work, &before, text)?;
+            tell_taken_out(&before, &taken_out(work), text)?;
             writeln!(text, "")
         }
         Err(fault) => writeln!(text, "{fault}"),
@@ -100,64 +99,57 @@ fn tell_spilled(
     Ok(())
 }
 
-// Calls `finalize`, lent so many words, and tells the image.
+// Calls `finalize`, and tells the image.
 fn hand_out<S: Store>(
     work: &Work<'_, S>,
-    words: Option<usize>,
-    lent: &mut Lent,
+    out: &mut [u32],
     text: &mut String,
 ) -> Result<(), AllocError> {
-    let count = words.unwrap_or(image_words(work.top(), work.room()));
-    let out = blank(lent.out.as_mut_slice(), count);
     let answer = work.finalize(out);
     tell_words(answer, out, text)?;
     writeln!(text, "")?;
     tell_spilled(answer, out, text)
 }
 
-// Calls `simplify`, lent so many words, and tells the image and the nodes that were taken out.
+// Calls `simplify`, and tells the image and the nodes that were taken out.
 fn simplify<S: Store>(
-    heap: Global,
     work: &mut Work<'_, S>,
-    words: Option<usize>,
-    lent: &mut Lent,
+    working: &mut [u32],
+    out: &mut [u32],
     text: &mut String,
 ) -> Result<(), AllocError> {
-    let before = taken_out(heap, work)?;
-    let count = words.unwrap_or(image_words(work.top(), work.room()));
-    let out = blank(lent.out.as_mut_slice(), count);
-    let working = first(lent.working.as_mut_slice(), working_words(work.room()));
+    let before = taken_out(work);
     let answer = work.simplify(working, out);
     tell_words(answer, out, text)?;
     if answer.is_ok() {
-        tell_taken_out(heap, work, &before, text)?;
+        tell_taken_out(&before, &taken_out(work), text)?;
     }
     writeln!(text, "")?;
     tell_spilled(answer, out, text)
 }
 
-// Makes a call, and tells its answer.
+// Makes a call, which is lent just the working words that it needs, and tells its answer.
 fn make<S: Store>(
-    heap: Global,
     work: &mut Work<'_, S>,
     call: Call,
     lent: &mut Lent,
     text: &mut String,
 ) -> Result<(), AllocError> {
-    let count = working_words(work.room());
-    let working = first(lent.working.as_mut_slice(), count);
+    let Lent { working, out } = lent;
+    let working = first(working.as_mut_slice(), working_words(work.room()));
+    let enough = image_words(work.top(), work.room());
+    let out = blank(out.as_mut_slice(), call.lent().unwrap_or(enough));
     match call {
         Call::Const => tell_live(work.const_simplify(working), text),
-        Call::Bve => eliminate(heap, work, lent, text),
+        Call::Bve => eliminate(work, working, text),
         Call::Subsume => tell_live(work.subsume_simplify(working), text),
-        Call::Finalize(words) => hand_out(work, words, lent, text),
-        Call::Simplify(words) => simplify(heap, work, words, lent, text),
+        Call::Finalize(_) => hand_out(work, out, text),
+        Call::Simplify(_) => simplify(work, working, out, text),
     }
 }
 
 // Makes the calls in turn, and shows the work before the first and after each.
 fn make_all<S: Store>(
-    heap: Global,
     work: &mut Work<'_, S>,
     calls: &[Call],
     lent: &mut Lent,
@@ -166,7 +158,7 @@ fn make_all<S: Store>(
     show_work(work, text)?;
     for call in calls {
         write!(text, "{call} -> ")?;
-        make(heap, work, *call, lent, text)?;
+        make(work, *call, lent, text)?;
         show_work(work, text)?;
     }
     Ok(())
@@ -174,7 +166,6 @@ fn make_all<S: Store>(
 
 // Does a job over a store, and adds what came of it to the text.
 pub fn drive<S: Store + Drop>(
-    heap: Global,
     job: &Job,
     store: S,
     lent: &mut Lent,
@@ -189,7 +180,7 @@ pub fn drive<S: Store + Drop>(
     match Work::start(intake, store) {
         Ok(mut work) => {
             writeln!(text, "start opened")?;
-            make_all(heap, &mut work, job.calls.as_slice(), lent, text)
+            make_all(&mut work, job.calls.as_slice(), lent, text)
         }
         Err((_, _, fault)) => writeln!(text, "start {fault}"),
     }

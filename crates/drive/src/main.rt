@@ -46,12 +46,12 @@ fn done(heap: Global, job: &Job, words: &mut [u32], lent: &mut Lent) -> Result<S
         StoreKind::Scanned => {
             let words = first(words, store_words::<Scanned<'_>>(job.room));
             tell_check(scanned::making::check(job.room, words.len()), &mut text)?;
-            drive(heap, job, scanned(words, job.room), lent, &mut text)?;
+            drive(job, scanned(words, job.room), lent, &mut text)?;
         }
         StoreKind::Indexed => {
             let words = first(words, store_words::<Indexed<'_>>(job.room));
             tell_check(indexed::making::check(job.room, words.len()), &mut text)?;
-            drive(heap, job, indexed(words, job.room), lent, &mut text)?;
+            drive(job, indexed(words, job.room), lent, &mut text)?;
         }
     }
     Ok(text)

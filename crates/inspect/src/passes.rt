@@ -124,14 +124,23 @@ fn print_each<S: Store>(rt: &HostRuntime, work: &mut Work<'_, S>) -> anyhow::Res
     print_pass(rt, "subsume_simplify", refused, work)
 }
 
-// Starts a work of the intake, and prints its passes; or why it cannot be started.
-pub fn print_passes(rt: &HostRuntime, intake: Intake<'_>) -> anyhow::Result<()> {
-    let mut words = vec![in rt.alloc(); 0u32; STORE_WORDS]?;
-    match Work::start(intake, scanned(words.as_mut_slice(), ROOM)) {
+// Starts a work of the intake over a store, and prints its passes; or why it cannot be started.
+fn print_over<S: Store + Drop>(
+    rt: &HostRuntime,
+    intake: Intake<'_>,
+    store: S,
+) -> anyhow::Result<()> {
+    match Work::start(intake, store) {
         Ok(mut work) => print_each(rt, &mut work),
         Err((_, _, fault)) => {
             println!(rt; "start {fault}")?;
             Ok(())
         }
     }
+}
+
+// Prints the passes over the network of an intake.
+pub fn print_passes(rt: &HostRuntime, intake: Intake<'_>) -> anyhow::Result<()> {
+    let mut words = vec![in rt.alloc(); 0u32; STORE_WORDS]?;
+    print_over(rt, intake, scanned(words.as_mut_slice(), ROOM))
 }
