@@ -1,7 +1,7 @@
-// Drives works by jobs: each line of standard input is an image, the nodes to freeze, the room of a store and a list of calls (job.rt). For each it
-// prints what the calls answer, and after each the own lists in order, the known values and, while an index stands, the uses; a line `.`
-// ends a job. The reference's harness reads the same jobs and prints the same text (tools/compare). An argument `scanned` or `indexed`
-// names the store of jobs that name none.
+// Drives works by jobs. Each line of standard input is a job: an image, the nodes to freeze, the room of a store, and a list of calls
+// (job.rt). For each the program prints what the calls answer, and after each call the own lists in order, the known values and, while an
+// index stands, the uses; a line `.` ends a job. The reference's harness reads the same jobs and prints the same text (tools/compare). An
+// argument `scanned` or `indexed` names the store of jobs that name none.
 //
 // Promises that it is safe and ends. Rests on `intake`, on the two stores, and on `work`.
 #![tactic(auto)]
