@@ -34,6 +34,13 @@ impl<'i> Intake<'i> {
         self.image[0]
     }
 
+    // The words that were taken in.
+    pub fn image(&self) -> &'i [u32]
+        ensures { result ≡ self.now.image }
+    {
+        self.image
+    }
+
     // The run of a node; no words for node 0 and past the highest node.
     pub fn run(&self, node: u32) -> Run<'i>
         ensures words { result.words.now ≡ run_of self.now.image.now node }

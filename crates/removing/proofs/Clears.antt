@@ -1,5 +1,5 @@
 -- The clauses that name a node, cleared one by one. Assumes nothing.
-use Rattle.std.proofs.Common.{◌≡◌, ℕ, suc, ◌+◌, ◌-◌, ◌<◌, ◌≤◌, Bool, true, false, ltb, List, [], ◌++◌, map, length, get_or, take, set, Some, None, Option, replicate, sym, ap, ◌∙◌, subst, arith}
+use Rattle.std.proofs.Common.{◌≡◌, ℕ, suc, ◌+◌, ◌-◌, ◌<◌, ◌≤◌, Bool, true, false, ltb, List, [], ◌++◌, map, length, get_or, take, set, Option, replicate, sym, ap, ◌∙◌, subst, arith}
 use Rattle.std.specs.Option.{option_flatten}
 use Rattle.std.specs.List.{swap_remove}
 use Rattle.std.proofs.lemmas.Bool.{lt-ltb, cond-true, cond-false}
@@ -13,6 +13,7 @@ use Rattle.network.specs.Clauses.{front}
 use Rattle.waiting.specs.Waits.{counts_of, times, SameWait}
 use Rattle.waiting.specs.declared.waiting.Waiting.{Waiting}
 use Rattle.waiting.proofs.Kept.{goes_counting}
+use Rattle.simplifier.proofs.Cursors.{Cursor, Answered, on_removed}
 use Rattle.removing.specs.Follows.{Follows}
 use Rattle.removing.specs.Outs.{names, without_named}
 use Rattle.removing.proofs.Following.{follows_none, follows_two}
@@ -98,48 +99,25 @@ module _ (n l : ℕ) where
         follows = follows_two M N (removed l i N) v w x g.follows (record { index = λ J. removed_indexed N l i J h; waits = s; counts = λ J top c. goes_counting N J L l i h L' top w x e c });
       }
 
--- what is said of an option, as the contracts of a store say it
-abbrev pub Said : {H : Type 0} → Option H → Type 0 → (H → Type 0) → Type 0
-Said o P Q = elim o [ None ↦ P | Some h ↦ Q h ]
-
-pub less_said : {H : Type 0} (o : Option H) (P P' : Type 0) (Q : H → Type 0) → (P → P') → Said o P Q → Said o P' Q
-less_said None P P' Q f p = f p
-less_said (Some h) P P' Q f q = q
-
-flattened : {H : Type 0} (r : Option (Option H)) (P : Type 0) (Q : H → Type 0) → Said r ⊥ (λ o. Said o P Q) → Said (option_flatten r) P Q
-flattened None P Q h = absurd h
-flattened (Some o) P Q h = h
-
 -- over a store: what its clauses mean, and at which place of an own list a handle stands
 module _ {S H : Type 0} (meaning : S → Meaning) (at : S → H → ℕ → ℕ → Type 0) where
-  -- the handle stands at place i of own l
-  abbrev pub Stands : S → ℕ → ℕ → H → Type 0
-  Stands s l i h = at s h l i × (i < length ((meaning s).own l))
-
-  -- the clause at place i of own l, if it has one
-  abbrev pub Reached : S → ℕ → ℕ → Option H → Type 0
-  Reached s l i o = Said o (length ((meaning s).own l) ≤ i) (Stands s l i)
-
-  pub reached : (s : S) (l i : ℕ) (o : Option H) → Said o (length ((meaning s).own l) ≡ i) (Stands s l i) → Reached s l i o
-  reached s l i o = less_said o (length ((meaning s).own l) ≡ i) (length ((meaning s).own l) ≤ i) (Stands s l i) (λ e. omega (arith, e))
-
   module _ (n l k : ℕ) (M : Meaning) (v : Waiting) where
     -- after k clauses of own l, with the clause at hand next
     abbrev pub Cleared : S → Waiting → Option H → Type 0
-    Cleared s w o = (i : ℕ) × Reached s l i o × Going n l i k M (meaning s) v w
+    Cleared s w o = (i : ℕ) × Cursor (at s) (meaning s) l i o × Going n l i k M (meaning s) v w
 
     pub cleared_same : (s s' : S) (w w' : Waiting) (o o' : Option H) → s' ≡ s → w' ≡ w → o' ≡ o → Cleared s w o → Cleared s' w' o'
     cleared_same s s' w w' o o' a b e c = subst (λ t. Cleared t w' o') (sym a) (subst (λ t. Cleared s t o') (sym b) (subst (λ t. Cleared s w t) (sym e) c))
 
-  module _ (n l k : ℕ) (M : Meaning) (v w : Waiting) (s : S) (h : H) (i : ℕ) (here : Stands s l i h) (g : Going n l i k M (meaning s) v w) (C : List ℕ) (is : C ≡ get_or ((meaning s).own l) i []) (b : Bool) (told : b ≡ names n C) where
-    pub clause_stays : b ≡ false → (o : Option H) → Said o (length ((meaning s).own l) ≡ i + 1) (Stands s l (i + 1)) → Cleared n l (k + 1) M v s w o
-    clause_stays t o q = (i + 1, reached s l (i + 1) o q, going_stays n l i k M (meaning s) v w g here.1 (ap (names n) (sym is) ∙ sym told ∙ t))
+  module _ (n l k : ℕ) (M : Meaning) (v w : Waiting) (s : S) (h : H) (i : ℕ) (here : at s h l i × (i < length ((meaning s).own l))) (g : Going n l i k M (meaning s) v w) (C : List ℕ) (is : C ≡ get_or ((meaning s).own l) i []) (b : Bool) (told : b ≡ names n C) where
+    pub clause_stays : b ≡ false → (o : Option H) → Cursor (at s) (meaning s) l (i + 1) o → Cleared n l (k + 1) M v s w o
+    clause_stays t o q = (i + 1, q, going_stays n l i k M (meaning s) v w g here.1 (ap (names n) (sym is) ∙ sym told ∙ t))
 
     pub clause_goes : b ≡ true → ((t : S) → Lawful (meaning t)) → (s' : S) (x : Waiting) → meaning s' ≡ removed l i (meaning s) → SameWait w x
-        → ((j : ℕ) → j < 2048 → counts_of x j ≡ counts_of w j - times j (front C)) → (r : Option (Option H)) → Said r ⊥ (λ o. Said o (length ((meaning s').own l) ≡ i) (Stands s' l i)) → Cleared n l (k + 1) M v s' x (option_flatten r)
-    clause_goes t lawful s' x e same counts r q = (
+        → ((j : ℕ) → j < 2048 → counts_of x j ≡ counts_of w j - times j (front C)) → (r : Option (Option H)) (o : Option H) → o ≡ option_flatten r → Answered (at s') (meaning s') l i r → Cleared n l (k + 1) M v s' x o
+    clause_goes t lawful s' x e same counts r o f q = (
       i,
-      reached s' l i (option_flatten r) (flattened r (length ((meaning s').own l) ≡ i) (Stands s' l i) q),
+      on_removed (at s') (meaning s') l i r o f q,
       subst (λ N. Going n l i (k + 1) M N v x) (sym e)
           (going_goes n l i k M (meaning s) v w g here.1 (ap (names n) (sym is) ∙ sym told ∙ t) (lawful s) (subst Lawful e (lawful s')) x same (subst (λ D. (j : ℕ) → j < 2048 → counts_of x j ≡ counts_of w j - times j (front D)) is counts)),
     )

@@ -1,5 +1,5 @@
 -- The literals in whose own lists stand uses, flagged one by one. Assumes nothing.
-use Rattle.std.proofs.Common.{◌≡◌, ℕ, ◌+◌, ◌<◌, Bool, true, false, ◌||◌, List, [], ◌∷◌, length, get_or, set, take, replicate, sym, refl, ap, ◌∙◌, subst, ⊎_elim, arith}
+use Rattle.std.proofs.Common.{◌≡◌, ℕ, ◌+◌, ◌<◌, Bool, true, false, ◌||◌, List, [], ◌∷◌, Some, None, Option, length, get_or, set, take, replicate, sym, refl, ap, ◌∙◌, subst, ⊎_elim, arith}
 use Rattle.std.specs.List.{list_any}
 use Rattle.std.proofs.lemmas.Bool.{cases_eq}
 use Rattle.std.proofs.lemmas.Bool.Decides.{nat_tests}
@@ -11,6 +11,10 @@ use Rattle.rules.specs.Store.{Ref, live, dead, Meaning}
 use Rattle.rules.proofs.Formed.{formed_parts}
 use Rattle.rules.proofs.Places.{in_at}
 use Rattle.removing.specs.Outs.{is_of}
+
+-- a cursor along the uses of x, at place j: the use there, or nothing where there is none
+abbrev pub UseAt : {U : Type 0} → (U → ℕ → ℕ → Type 0) → Meaning → ℕ → ℕ → Option U → Type 0
+UseAt usage M x j o = elim o [ None ↦ length (M.uses x) ≡ j | Some u ↦ usage u x j × (j < length (M.uses x)) ]
 
 -- a use names an own list of a literal up to 2,047
 pub use_small : (M : Meaning) → Lawful M → (x j l i : ℕ) → j < length (M.uses x) → get_or (M.uses x) j dead ≡ live l i → l < 2048

@@ -88,11 +88,13 @@ module _ (heads nodes : ℕ) (ws : List ℕ) (t : Tidy heads nodes ws) (h s : �
   -- a slot that some new ring has not, no old one had, and it is not the one put there
   not_there : (n : ℕ) → ((l : ℕ) → l < heads → Lacks n (ring heads nodes vs l)) → ((l : ℕ) → l < heads → Lacks n (ring heads nodes ws l)) × (s ≡ n → ⊥)
   not_there n l =
-      let here = lacks_push n s (ring heads nodes ws h) (subst (Lacks n) (rings h head ∙ at_here (ring heads nodes ws) h (ring heads nodes ws h ++ (s ∷ [])) h refl) (l h head)) in
-      (λ k g. elim (cases_eq k h) [
-        | inl e ↦ subst (λ (m : ℕ). Lacks n (ring heads nodes ws m)) (sym e) here.0
-        | inr ne ↦ subst (Lacks n) (rings k g ∙ at_else (ring heads nodes ws) h (ring heads nodes ws h ++ (s ∷ [])) k ne) (l k g)
-      ], here.1)
+      let here = lacks_push n s (ring heads nodes ws h) (subst (Lacks n) (rings h head ∙ at_here (ring heads nodes ws) h (ring heads nodes ws h ++ (s ∷ [])) h refl) (l h head)) in (
+        λ k g. elim (cases_eq k h) [
+          | inl e ↦ subst (λ (m : ℕ). Lacks n (ring heads nodes ws m)) (sym e) here.0
+          | inr ne ↦ subst (Lacks n) (rings k g ∙ at_else (ring heads nodes ws) h (ring heads nodes ws h ++ (s ∷ [])) k ne) (l k g)
+        ],
+        here.1,
+      )
 
   put_tidy : Tidy heads nodes vs
   put_tidy = record {
@@ -165,11 +167,11 @@ module _ (heads nodes : ℕ) (ws : List ℕ) (t : Tidy heads nodes ws) (s n : �
       let t' = put_in_tidy heads nodes ws t h s head slot within one in
       let rings' = put_in_rings heads nodes ws t h s head slot within one in
       t.alone n a b (λ l g.
-          let there = subst (Lacks n) (rings' l g) (alone_lacks heads nodes (put_in ws h s) t'.held n l g b e) in
-          elim (cases_eq l h) [
-            | inl q ↦ subst (λ (m : ℕ). Lacks n (ring heads nodes ws m)) (sym q) (lacks_push n s (ring heads nodes ws h) (subst (Lacks n) (at_here (ring heads nodes ws) h (ring heads nodes ws h ++ (s ∷ [])) l q) there)).0
-            | inr ne ↦ subst (Lacks n) (at_else (ring heads nodes ws) h (ring heads nodes ws h ++ (s ∷ [])) l ne) there
-          ])
+      let there = subst (Lacks n) (rings' l g) (alone_lacks heads nodes (put_in ws h s) t'.held n l g b e) in
+      elim (cases_eq l h) [
+        | inl q ↦ subst (λ (m : ℕ). Lacks n (ring heads nodes ws m)) (sym q) (lacks_push n s (ring heads nodes ws h) (subst (Lacks n) (at_here (ring heads nodes ws) h (ring heads nodes ws h ++ (s ∷ [])) l q) there)).0
+        | inr ne ↦ subst (Lacks n) (at_else (ring heads nodes ws) h (ring heads nodes ws h ++ (s ∷ [])) l ne) there
+      ])
 
 -- a slot that was put in does not stand alone
 pub put_in_tied : (heads nodes : ℕ) (ws : List ℕ) → Tidy heads nodes ws → (h s : ℕ) → h < heads → heads ≤ s → s < nodes → next ws s ≡ s → next (put_in ws h s) s ≡ s → ⊥

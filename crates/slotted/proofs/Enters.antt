@@ -1,7 +1,6 @@
 -- A clause entered, in own lists and in an index. Assumes nothing.
-use Rattle.std.proofs.Common.{◌≡◌, ℕ, ◌+◌, ◌<◌, ◌≤◌, Bool, true, false, cond, ◌&&◌, eqb, ltb, ◌⊎◌, List, [], ◌∷◌, ◌++◌, length, get_or, sym, refl, ap, ◌∙◌, subst, inl, inr, ⊎_elim, arith}
+use Rattle.std.proofs.Common.{◌≡◌, ℕ, ◌+◌, ◌≤◌, Bool, true, false, cond, ◌&&◌, eqb, ltb, ◌⊎◌, List, [], ◌∷◌, ◌++◌, length, sym, refl, ap, ◌∙◌, subst, inl, inr, ⊎_elim, arith}
 use Rattle.std.proofs.lemmas.Bool.{and_parts, both_ways, cases_Bool, cases_eq}
-use Rattle.std.proofs.lemmas.List.{get_or_append_left, length_push}
 use Rattle.network.specs.Lists.{In}
 use Rattle.network.specs.Clauses.{front, has, last, well_formed}
 use Rattle.network.proofs.Lists.{in_cases, in_left, in_right}
@@ -16,7 +15,7 @@ use Rattle.owned.proofs.Moves.{all_in, in_all}
 use Rattle.owned.specs.declared.owned.Owned.{Owned}
 use Rattle.owned.specs.Effects.{Admitted}
 use Rattle.slotted.specs.Indexes.{Listing, MayJoin, Sensible}
-use Rattle.owned.specs.Lists.{At, kept, listed, lost, own, text}
+use Rattle.owned.specs.Lists.{kept, listed, lost, own, text}
 use Rattle.slotted.specs.Tied.{meaning_of}
 use Rattle.slotted.proofs.Asks.{live_is}
 use Rattle.slotted.proofs.Fronts.{may_join}
@@ -106,19 +105,6 @@ module _ (s t : Owned) (ix : Bool) (j : ℕ → Bool) (u : Listing → ℕ → L
   slot_stays : (y : ℕ) → HasSlot s y → HasSlot t y
   slot_stays y (inl k) = inl (k.0, own_in k.0 y k.1)
   slot_stays y (inr k) = inr (subst (In y) (sym A.losts) k)
-
-  -- a slot stays at its place
-  pub at_stays : (y l i : ℕ) → At s y l i → At t y l i
-  at_stays y l i a =
-      let long = own s (last C) ++ (x ∷ []) in
-      rw (A.owns l) (elim (cases_eq l (last C)) [
-        | inl q ↦
-            let p : i < length (own s (last C)) = subst (λ (m : ℕ). i < length (own s m)) q a.0 in
-            let e : get_or (own s (last C)) i 0 ≡ y = ap (λ (m : ℕ). get_or (own s m) i 0) (sym q) ∙ a.1 in
-            let n = length_push (own s (last C)) x in
-            rw (at_here (own s) (last C) long l q) (omega arith, get_or_append_left (own s (last C)) (x ∷ []) 0 i p ∙ e)
-        | inr n ↦ rw (at_else (own s) (last C) long l n) a
-      ])
 
   -- and the index, which the slot has joined if it stands
   module _ (j' : ℕ → Bool) (u' : Listing → ℕ → List ℕ) (joins : (y : ℕ) → j' y ≡ cond (eqb y x) (ix && ltb 0 (length (front C))) (j y))

@@ -16,6 +16,7 @@ fn fill_from<I: Index>(own: &mut Owned<'_>, index: &mut I, l: u32)
     let mut at = own.first(l);
     while let Some(x) = at {
         own.relist(x);
+        // No clause is empty.
         if let [front @ .., _] = own.text(x) {
             index.join(x, front);
         }

@@ -50,7 +50,7 @@ impl<I: Index> Lists for Slotted<'_, I> {
     }
 
     fn first(&self, l: u32) -> Option<I::Handle> {
-        self.own.first(l).map(|x| I::handle(x))
+        Some(I::handle(self.own.first(l)?))
     }
 
     fn next(&self, h: I::Handle) -> Option<I::Handle> {

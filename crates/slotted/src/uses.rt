@@ -4,8 +4,6 @@ ghost use Rattle.owned.specs.Lists.{listed};
 use crate::fill::fill;
 use crate::index::Index;
 use crate::slotted::Slotted;
-use owned::owned::Owned;
-use store::lists::Lists;
 use store::store::Store;
 
 impl<I: Index> Store for Slotted<'_, I> {

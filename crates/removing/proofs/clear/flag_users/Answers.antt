@@ -1,6 +1,5 @@
-use Rattle.std.proofs.Common.{◌≡◌, ◌+◌, ◌<◌, ◌≤◌, true, false, length, get_or, set, ap, ◌∙◌, subst, arith}
-use Rattle.removing.proofs.Clears.{Said, less_said}
-use Rattle.removing.proofs.Flags.{use_small, flag_dead, flag_live}
+use Rattle.std.proofs.Common.{true, false, get_or, set, ap, ◌∙◌, subst, arith}
+use Rattle.removing.proofs.Flags.{UseAt, use_small, flag_dead, flag_live}
 use Rattle.removing.proofs.clear.flag_users.Goals as goal
 use Rattle.removing.proofs.clear.flag_users.Goals.{in-Some-user, in_default-user}
 
@@ -8,7 +7,7 @@ pub bounds-flags-place : goal.bounds-flags-place
 bounds-flags-place g c =
     let M = g.S.Lists.meaning c.args.store.now in
     let j = c.loop-j._j in
-    let u = subst (λ o. Said o (length (M.uses c.args.x) ≤ j) (λ u. g.S.Store.usage c.args.store.now u c.args.x j × (j < length (M.uses c.args.x)))) c.in-Some.is c.loop-j.invariant.at in
+    let u = subst (UseAt (g.S.Store.usage c.args.store.now) M c.args.x j) c.in-Some.is c.loop-j.invariant.at in
     let (l, i, at, e) = c.in-Some-user.ensures c.args.x j u.0 in
     omega (arith, c.place.ensures l i at, use_small M (g.met.S.Lists.lawful c.args.store.now) c.args.x j l i u.1 e)
 
@@ -17,10 +16,10 @@ loop-j-preserved g c =
     let M = g.S.Lists.meaning c.args.store.now in
     let rs = M.uses c.args.x in
     let j = c.loop-j._j in
-    let u = subst (λ o. Said o (length rs ≤ j) (λ u. g.S.Store.usage c.args.store.now u c.args.x j × (j < length rs))) c.in-Some.is c.loop-j.invariant.at in
+    let u = subst (UseAt (g.S.Store.usage c.args.store.now) M c.args.x j) c.in-Some.is c.loop-j.invariant.at in
     record {
       long = c.match-user.array_long;
-      at = less_said c.next_use-at.result (length rs ≡ j + 1) (length rs ≤ j + 1) (λ v. g.S.Store.usage c.args.store.now v c.args.x (j + 1) × (j + 1 < length rs)) (λ e. omega (arith, e)) (c.next_use-at.ensures j u.0);
+      at = c.next_use-at.ensures j u.0;
       flags = λ k kl.
           let so_far = c.loop-j.invariant.flags k kl in
           elim c.match-user.branch [

@@ -1,0 +1,2 @@
+pub mod Outs
+pub mod Words
