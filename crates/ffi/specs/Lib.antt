@@ -1,0 +1,2 @@
+pub mod Simplified
+pub mod StubShown
