@@ -26,7 +26,7 @@ pub fn judge<S: Lists>(s: &mut Simplifier<S>, h: S::Handle) -> bool
 }
 
 // Judges the first clauses of the own list of l, as many as there are marks, in turn, and marks with 1 those that go.
-pub fn judge_first<S: Lists>(s: &mut Simplifier<S>, l: u32, marks: &mut [u32])
+pub(crate) fn judge_first<S: Lists>(s: &mut Simplifier<S>, l: u32, marks: &mut [u32])
     requires { length marks.now ≤ length ((S.meaning s.now.store).own l) }
     ensures makes { (out : List ℕ) → judged (take (length marks.old) ((S.meaning s.old.store).own l)) (work_of S.meaning s.old out) ≡ (marked marks.new, work_of S.meaning s.new out) }
     ensures kept { s.new.taken_out ≡ s.old.taken_out }

@@ -1,7 +1,7 @@
 -- One attempt, by what was answered on the way. Assumes nothing.
-use Rattle.std.proofs.Common.{◌≡◌, ℕ, ◌+◌, ◌*◌, ◌≤◌, Bool, true, false, cond, not, ◌&&◌, length, Some, None, refl, ◌∙◌, subst, arith}
+use Rattle.std.proofs.Common.{◌≡◌, ℕ, ◌+◌, ◌*◌, ◌≤◌, Bool, true, false, cond, not, ◌&&◌, is_some, List, length, Some, None, Option, refl, ap, sym, ◌∙◌, subst, arith}
 use Rattle.std.proofs.Math.Nat.{le_trans}
-use Rattle.std.proofs.lemmas.Bool.{and_from, le-leb, cond-true, cond-false}
+use Rattle.std.proofs.lemmas.Bool.{and_from, and_parts, not-true, not-false, le-leb, cond-true, cond-false}
 use Rattle.lemmas.specs.declared.Lemmas.{Lemmas}
 use Rattle.network.specs.Lemmas.{lemmas}
 use Rattle.rules.specs.Index.{Indexed}
@@ -15,25 +15,14 @@ use Rattle.resolving.specs.Answers.{suffice, unless_too_much, Lent}
 use Rattle.resolving.specs.Collected.{too_much}
 use Rattle.elimination.specs.Words.{Roomy}
 
--- a test that gave nothing, and one that gave something
-none_then : {X : Type 0} (b : Bool) (x : X) → None ≡ cond b None (Some x) → b ≡ true
-none_then true x e = refl
-none_then false x e = absurd cc
+-- a test, by what was answered
+given_if : {X : Type 0} (b : Bool) (x : X) (o : Option X) → o ≡ cond b (Some x) None → b ≡ is_some o
+given_if true x o e = ap is_some (sym e)
+given_if false x o e = ap is_some (sym e)
 
-some_then : {X : Type 0} (b : Bool) (x y : X) → Some y ≡ cond b None (Some x) → (b ≡ false) × (y ≡ x)
-some_then true x y e = absurd cc
-some_then false x y e = (refl, cc)
-
--- what is answered where the words suffice
-none_left : {X : Type 0} (a b : Bool) (x : X) → a ≡ true → None ≡ cond (a && not b) (Some x) None → b ≡ true
-none_left true true x t e = refl
-none_left true false x t e = absurd cc
-none_left false b x t e = absurd cc
-
-some_left : {X : Type 0} (a b : Bool) (x y : X) → Some y ≡ cond (a && not b) (Some x) None → (b ≡ false) × (y ≡ x)
-some_left true true x y e = absurd cc
-some_left true false x y e = (refl, cc)
-some_left false b x y e = absurd cc
+given_unless : {X : Type 0} (b : Bool) (x : X) (o : Option X) → o ≡ cond b None (Some x) → b ≡ not (is_some o)
+given_unless true x o e = ap (λ p. not (is_some p)) (sym e)
+given_unless false x o e = ap (λ p. not (is_some p)) (sym e)
 
 -- the words suffice for what a node costs
 pub enough : (M : Meaning) → Lawful M → Indexed M → (n k : ℕ) (w : Lemmas) → k ≡ cost M n → Roomy M.room w → suffice k w ≡ true
@@ -61,26 +50,32 @@ pub attempt_top : (n : ℕ) (W : Work) → (attempt n W).top ≡ W.top
 attempt_top = attempt_along (λ W N. N.top ≡ W.top) top_steps
 
 module _ (n : ℕ) (W : Work) where
+  abbrev Rs : List (List ℕ)
+  Rs = all_resolvents W.store n
+
   pub over : None ≡ cond (passed_over W n) None (Some (cost W.store n)) → attempt n W ≡ W
   unfolding attempt
-  over e = cond-true (passed_over W n) W _ (none_then (passed_over W n) (cost W.store n) e)
+  over e = cond-true (passed_over W n) W _ (given_unless (passed_over W n) (cost W.store n) None e)
 
   module _ (k : ℕ) (costs : Some k ≡ cond (passed_over W n) None (Some (cost W.store n))) where
+    stays : passed_over W n ≡ false
+    stays = given_unless (passed_over W n) (cost W.store n) (Some k) costs
+
     pub cost_is : k ≡ cost W.store n
-    cost_is = (some_then (passed_over W n) (cost W.store n) k costs).1
+    cost_is = let e = costs ∙ cond-false (passed_over W n) None (Some (cost W.store n)) stays in cc
 
-    go_on : attempt n W ≡ attempted n (all_resolvents W.store n) W
+    go_on : attempt n W ≡ attempted n Rs W
     unfolding attempt
-    go_on = cond-false (passed_over W n) W _ (some_then (passed_over W n) (cost W.store n) k costs).0
+    go_on = cond-false (passed_over W n) W _ stays
 
-    pub gives_up : (w : Lemmas) → suffice k w ≡ true → None ≡ unless_too_much k w (all_resolvents W.store n) (length (lemmas (all_resolvents W.store n))) → attempt n W ≡ W
-    gives_up w t e =
-        let m = none_left (suffice k w) (too_much k (all_resolvents W.store n)) (length (lemmas (all_resolvents W.store n))) t e in
-        go_on ∙ cond-true (given_up W n (all_resolvents W.store n)) W _ (subst (λ c. too_much c (all_resolvents W.store n) ≡ true) cost_is m)
+    module _ (w : Lemmas) where
+      pub gives_up : suffice k w ≡ true → None ≡ unless_too_much k w Rs (length (lemmas Rs)) → attempt n W ≡ W
+      gives_up t e =
+          let f = ap (λ b. b && not (too_much k Rs)) (sym t) ∙ given_if (suffice k w && not (too_much k Rs)) (length (lemmas Rs)) None e in
+          go_on ∙ cond-true (given_up W n Rs) W _ (subst (λ c. too_much c Rs ≡ true) cost_is (not-false (too_much k Rs) f))
 
-    pub takes : (w : Lemmas) (m : ℕ) → Some m ≡ unless_too_much k w (all_resolvents W.store n) (length (lemmas (all_resolvents W.store n)))
-        → (attempt n W ≡ each add (lemmas (all_resolvents W.store n)) (taken_out n W)) × (m ≡ length (lemmas (all_resolvents W.store n)))
-    unfolding eliminated
-    takes w m e =
-        let (f, q) = some_left (suffice k w) (too_much k (all_resolvents W.store n)) (length (lemmas (all_resolvents W.store n))) m e in
-        (go_on ∙ cond-false (given_up W n (all_resolvents W.store n)) W _ (subst (λ c. too_much c (all_resolvents W.store n) ≡ false) cost_is f), q)
+      pub takes : (m : ℕ) → Some m ≡ unless_too_much k w Rs (length (lemmas Rs)) → attempt n W ≡ each add (lemmas Rs) (taken_out n W)
+      unfolding eliminated
+      takes m e =
+          let t = and_parts (suffice k w) (not (too_much k Rs)) (given_if (suffice k w && not (too_much k Rs)) (length (lemmas Rs)) (Some m) e) in
+          go_on ∙ cond-false (given_up W n Rs) W _ (subst (λ c. too_much c Rs ≡ false) cost_is (not-true (too_much k Rs) t.1))

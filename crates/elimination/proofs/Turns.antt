@@ -1,5 +1,5 @@
 -- The attempts one after another, as nodes are handed out. Assumes nothing.
-use Rattle.std.proofs.Common.{◌↔◌, ◌≡◌, ℕ, zero, suc, ◌+◌, ◌*◌, ◌<◌, ◌≤◌, Bool, true, false, cond, not, ◌||◌, ltb, eqb, List, [], ◌∷◌, ◌++◌, length, Some, None, sym, refl, ap, ◌∙◌, subst, inl, inr, ⊎_elim, arith}
+use Rattle.std.proofs.Common.{◌↔◌, ◌≡◌, ℕ, zero, suc, ◌+◌, ◌*◌, ◌≤◌, Bool, true, false, cond, not, ◌||◌, ltb, eqb, List, [], ◌∷◌, ◌++◌, length, Some, None, sym, refl, ap, ◌∙◌, subst, inl, inr, ⊎_elim, arith}
 use Rattle.std.proofs.lemmas.Bool.{cond_both}
 use Rattle.network.specs.Clauses.{Rising, has}
 use Rattle.network.specs.Lists.{In}
@@ -8,6 +8,7 @@ use Rattle.network.proofs.Resolution.{rising_kept}
 use Rattle.rules.specs.Store.{Meaning, from, up_to}
 use Rattle.rules.specs.Bve.{use_count, least, but, attempt, attempts}
 use Rattle.rules.proofs.Index.{in_up_to}
+use Rattle.rules.proofs.Start.{from_in}
 use Rattle.simplifier.specs.Shown.{work_of}
 use Rattle.simplifier.specs.declared.state.Simplifier.{Simplifier}
 use Rattle.waiting.specs.Waits.{Waits, WaitAll, SameWait, Next, Counting, both_counts}
@@ -28,11 +29,7 @@ least_in : (f : ℕ → ℕ) (k : ℕ) (ks : List ℕ) → In (least f k ks) (k 
 least_in f k [] = inl refl
 least_in f k (j ∷ ks) = cond_both (ltb (f j) (f k)) (least f j ks) (least f k ks) (λ x. In x (k ∷ j ∷ ks)) (λ t. inr (least_in f j ks)) (λ t. ⊎_elim inl (λ r. inr (inr r)) (least_in f k ks))
 
--- so many numbers from i on rise, and are below the last
-from_in : (t i k : ℕ) → In k (from i t) → (i ≤ k) × (k < i + t)
-from_in zero i k h = absurd h
-from_in (suc t) i k h = ⊎_elim (λ e. (omega (arith, e), omega (arith, e))) (λ l. let (a, b) = from_in t (suc i) k l in (omega (arith, a), omega (arith, b))) h
-
+-- so many numbers from i on rise
 from_rising : (t i : ℕ) → Rising (from i t)
 from_rising zero i = tt
 from_rising (suc t) i = (λ k h. (from_in t (suc i) k h).0, from_rising t (suc i))
@@ -124,8 +121,7 @@ module _ {S : Type 0} (meaning : S → Meaning) where
         let (k, ks, e, q, a) = handed in
         let W = work_of meaning t (u.nodes ++ out) in
         let same : n ≡ least (use_count W.store) k ks =
-        q ∙ least_same (both_counts v) (use_count W.store) k ks (λ j i. let le = u.small j (subst (In j) (sym e) i) in
-        let a = c (2 * j) (omega (arith, le)) in let b = c (2 * j + 1) (omega (arith, le)) in omega (arith, a, b)) in
+        q ∙ least_same (both_counts v) (use_count W.store) k ks (λ j i. let le = u.small j (subst (In j) (sym e) i) in omega (arith, c (2 * j) (omega (arith, le)), c (2 * j + 1) (omega (arith, le)))) in
         ap (λ ns. attempts fuel (but n ns) (attempt n W)) e
         ∙ ap (λ m. attempts fuel (but m (k ∷ ks)) (attempt m W)) same
         ∙ ap (λ ns. attempts (suc fuel) ns W) (sym e) ∙ u.left out

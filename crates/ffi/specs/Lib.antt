@@ -1,2 +1,1 @@
 pub mod Simplified
-pub mod StubShown

@@ -11,7 +11,6 @@ ghost use Rattle.handing_out.specs.Outcome.{left_in};
 ghost use Rattle.std.specs.Prelude.{◌≡◌, length};
 
 pub mod simplify;
-mod stub;
 
 use crate::simplify::simplify_words;
 

@@ -8,7 +8,7 @@ use image::fault::Fault;
 use input::opening::open_image;
 use intake::state::Intake;
 use store::store::Store;
-use crate::stub::Work;
+use work::state::Work;
 
 // Simplifies the network of an intake over a store, in lent working words, and writes its image to the front of `out`. The answer is
 // how many words the image has.

@@ -37,6 +37,7 @@ pub words_suffice : WordsSuffice
 words_suffice = record {
   const = λ W. omega arith;
   bve = λ W. omega arith;
+  subsume = λ W. omega arith;
   marks = marks_few;
   resolvents = λ W L t i e. omega (arith, sizes_small.few t.before t.at e, sizes_small.costs W L t i, sizes_small.lives W L t i);
   short = λ W n e. (kept_few W n (not-true (given_up W n (all_resolvents W.store n)) (and_parts (not (passed_over W n)) (not (given_up W n (all_resolvents W.store n))) e).1)).0;

@@ -30,15 +30,20 @@ pub record SizesSmall : Type 0 where
 abbrev pub const_words : ℕ → ℕ
 const_words room = 2 * room
 
--- bve_simplify has for each resolvent its length, 32 literals, four words of signature and a word in each of three lists of numbers;
--- the counts of all literals; the waiting nodes, and the place of each
+-- bve_simplify has the count of each of 2,048 literals, and for each of 1,024 nodes its place and an entry; for each resolvent its length,
+-- 32 literals and a word in each of three lists of numbers; and the literals of one that is too long or one too many
 abbrev pub bve_words : ℕ → ℕ
-bve_words room = 40 * room + 2048 + 2 * 1024
+bve_words room = 2048 + 2 * 1024 + 36 * room + 64
 
--- the working words that a pass is lent hold what it puts there; subsume_simplify puts nothing there
+-- subsume_simplify has for each node how many clauses stand around it
+abbrev pub subsume_words : ℕ
+subsume_words = 1024
+
+-- the working words that a pass is lent hold what it puts there
 pub record WordsSuffice : Type 0 where
   pub const : (W : Work) → const_words W.store.room ≤ need W
   pub bve : (W : Work) → bve_words W.store.room ≤ need W
+  pub subsume : (W : Work) → subsume_words ≤ need W
   -- the marks: in no turn has a literal more own clauses than the room
   pub marks : (W : Work) → Lawful W.store → (t : Turn) → In t (const_turns W) → (l : ℕ) → length (own_of t.before l) ≤ W.store.room
   -- the resolvents: an attempt that is not given up has no more than the room, none with more than 32 literals; one that is given up

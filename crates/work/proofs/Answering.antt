@@ -17,7 +17,8 @@ use Rattle.rules.specs.Calls.{need, lent, half, with_live, with_out, finalized, 
 use Rattle.rules.specs.Theorem.{flags}
 use Rattle.simplifier.specs.declared.state.Simplifier.{Simplifier}
 use Rattle.simplifier.specs.Shown.{work_of}
-use Rattle.work.specs.Stubs.{counted, left_in}
+use Rattle.handing_out.specs.Outcome.{counted, left_in}
+use Rattle.elimination.specs.Outs.{Answered}
 use Rattle.work.specs.Shown.{Marks, Shows, Underway, Leads}
 use Rattle.work.specs.Promises.{Keeps, Faithful, words_of}
 use Rattle.work.proofs.Reaching.{shrinks_of}
@@ -26,13 +27,19 @@ use Rattle.work.proofs.Reaching.{shrinks_of}
 
 module _ {S R : Type 0} (meaning : S → Meaning) (call : Work → Work × R) (s t : Simplifier S) (r : R) where
   -- a pass leads as its rule does, where the flags tell the nodes that the rule takes out
-  pub leads_marked : ((out : List ℕ) → Marks s.taken_out out → (work_of meaning t (call (work_of meaning s out)).0.out, r) ≡ call (work_of meaning s out))
+  leads_marked : ((out : List ℕ) → Marks s.taken_out out → (work_of meaning t (call (work_of meaning s out)).0.out, r) ≡ call (work_of meaning s out))
       → ((out : List ℕ) → Marks s.taken_out out → Marks t.taken_out (call (work_of meaning s out)).0.out)
       → Leads meaning call s t r
   leads_marked makes marks = record {
     work = λ W T. subst (λ V. Shows meaning t (call V).0) T.is (record { is = ap (λ p. p.0) (makes W.out T.marks); marks = marks W.out T.marks });
     answer = λ W T. subst (λ V. r ≡ (call V).1) T.is (ap (λ p. p.1) (makes W.out T.marks));
   }
+
+  -- the same, where work, answer and flags come together
+  pub leads_answered : ((out : List ℕ) → Marks s.taken_out out → Answered meaning (call (work_of meaning s out)) t r) → Leads meaning call s t r
+  leads_answered a = leads_marked
+      (λ out m. ap (λ W. (W, r)) (a out m).work ∙ ap (λ q. ((call (work_of meaning s out)).0, q)) (a out m).answers)
+      (λ out m. (a out m).flags)
 
   -- the same of a pass that takes no node out
   pub leads_same : ((out : List ℕ) → (work_of meaning t out, r) ≡ call (work_of meaning s out)) → t.taken_out ≡ s.taken_out → Leads meaning call s t r

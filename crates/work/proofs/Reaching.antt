@@ -35,7 +35,7 @@ use Rattle.rules.proofs.Start.{Started, start_parts, start_nodes}
 use Rattle.rules.proofs.Unrefused.{Met, bve_met, takes_less, attempt_shrinks, uses_none}
 use Rattle.simplifier.specs.declared.state.Simplifier.{Simplifier}
 use Rattle.simplifier.specs.Shown.{work_of}
-use Rattle.work.specs.Stubs.{refused}
+use Rattle.starting.specs.Refused.{refused}
 use Rattle.work.specs.Shown.{Marks, Shows, Underway, Leads}
 use Rattle.work.specs.Promises.{Keeps, Gone, AllGone, SmallTurns, Faithful, words_of}
 use Rattle.work.proofs.Searching.{settings_known}

@@ -65,8 +65,8 @@ module _ (frozen : Assignment) (p : Assignment → Bool) where
   finds (suc n) σ τ t a b = ⊎_elim
       (λ f. cond-true (frozen n) _ _ f ∙ finds n σ τ t (λ k l. ⊎_elim (λ q. subst (λ j. τ j ≡ σ j) (sym q) (b n f)) (λ q. a k (omega arith)) (cases_eq k n)) b)
       (λ f. cond-false (frozen n) _ _ f ∙ either n σ (τ n) (finds n (put σ n (τ n)) τ t
-          (λ k l. ⊎_elim (put_agrees n σ τ k) (λ q. a k (omega arith) ∙ sym (put_apart σ n (τ n) k q)) (cases_eq k n))
-          (λ k h. ⊎_elim (put_agrees n σ τ k) (λ q. b k h ∙ sym (put_apart σ n (τ n) k q)) (cases_eq k n))))
+      (λ k l. ⊎_elim (put_agrees n σ τ k) (λ q. a k (omega arith) ∙ sym (put_apart σ n (τ n) k q)) (cases_eq k n))
+      (λ k h. ⊎_elim (put_agrees n σ τ k) (λ q. b k h ∙ sym (put_apart σ n (τ n) k q)) (cases_eq k n))))
       (cases_Bool (frozen n))
 
 -- ## How far to search
@@ -115,9 +115,9 @@ module _ (Cs : List (List ℕ)) (frozen setting : Assignment) where
       let n = past_all Cs in
       let τ = spliced n σ setting in
       finds frozen (λ ρ. sat ρ Cs) n setting τ
-          (all_from (holds τ) Cs (λ C i. holds_agree τ σ C (λ l j. spliced_low n σ setting (node l) (past_all_each Cs C l i j)) ∙ all_at (holds σ) Cs s C i))
-          (spliced_high n σ setting)
-          (λ k f. spliced_kept n σ setting k (a k f))
+      (all_from (holds τ) Cs (λ C i. holds_agree τ σ C (λ l j. spliced_low n σ setting (node l) (past_all_each Cs C l i j)) ∙ all_at (holds σ) Cs s C i))
+      (spliced_high n σ setting)
+      (λ k f. spliced_kept n σ setting k (a k f))
 
   admits_known : ∥ Admits Cs frozen setting ∥₁ → Admits Cs frozen setting
   admits_known h = found frozen (λ σ. sat σ Cs) (past_all Cs) setting (∥∥₁_elim h (≡_prop coded_bool searched true) admits_searched)

@@ -1,3 +1,2 @@
 pub mod Shown
 pub mod Promises
-pub mod Stubs

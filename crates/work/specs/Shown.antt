@@ -7,7 +7,7 @@ use Rattle.rules.specs.Work.{Work}
 use Rattle.rules.specs.Theorem.{flags, Reached}
 use Rattle.simplifier.specs.declared.state.Simplifier.{Simplifier}
 use Rattle.simplifier.specs.Shown.{work_of}
-use Rattle.work.specs.Stubs.{left_in}
+use Rattle.handing_out.specs.Outcome.{left_in}
 
 -- the flags fs are of exactly the nodes in ns
 abbrev pub Marks : List Bool → List ℕ → Type 0

@@ -3,10 +3,9 @@ ghost use Rattle.rules.specs.Store.{live_clauses};
 ghost use Rattle.std.specs.Prelude.{◌≡◌, ◌≤◌, ◌⊎◌, length, take, IfErr, IfOk, OnErr};
 ghost use Rattle.work.specs.Promises.{AllGone, Faithful, Keeps, SmallTurns};
 ghost use Rattle.work.specs.Shown.{Leads, Shows, Writes};
-ghost use Rattle.work.specs.Stubs.{counted};
+ghost use Rattle.handing_out.specs.Outcome.{counted};
 
 use crate::state::Work;
-use crate::stubs;
 use image::fault::Fault;
 use store::store::Store;
 
@@ -19,7 +18,7 @@ impl<S: Store> Work<'_, S> {
         ensures keeps { Keeps S.meaning self.old.simplifier self.new.simplifier }
         ensures refused { OnErr result ((self.new.simplifier ≡ self.old.simplifier) × (words.new ≡ words.old)) }
     {
-        stubs::const_simplify(&mut self.simplifier, words)
+        constants::const_simplify(&mut self.simplifier, words)
     }
 
     // Takes nodes out, each where its resolvents are no more than the clauses that go. The answer is how many, and the number of live
@@ -33,7 +32,7 @@ impl<S: Store> Work<'_, S> {
         ensures fewer { live_clauses (S.meaning self.new.simplifier.store) ≤ live_clauses (S.meaning self.old.simplifier.store) }
         ensures refused { OnErr result ((self.new.simplifier ≡ self.old.simplifier) × (words.new ≡ words.old)) }
     {
-        stubs::bve_simplify(&mut self.simplifier, words)
+        elimination::bve_simplify(&mut self.simplifier, words)
     }
 
     // Drops clauses that others subsume, and strengthens clauses. The answer is the number of live clauses. Refused with 10 where the
@@ -44,7 +43,7 @@ impl<S: Store> Work<'_, S> {
         ensures keeps { Keeps S.meaning self.old.simplifier self.new.simplifier }
         ensures refused { OnErr result ((self.new.simplifier ≡ self.old.simplifier) × (words.new ≡ words.old)) }
     {
-        stubs::subsume_simplify(&mut self.simplifier, words)
+        subsumption_pass::subsume_simplify(&mut self.simplifier, words)
     }
 
     // Writes the image of the network to the front of `out`. The answer is how many words it has. Refused with 14 where `out` has fewer;
@@ -55,7 +54,7 @@ impl<S: Store> Work<'_, S> {
         ensures faithful { IfOk result (λ n. Faithful S.meaning self.now.simplifier self.now.image.now (take n out.new)) }
         ensures refused { IfErr result (λ f. (f.number ≡ 14) × (out.new ≡ out.old)) }
     {
-        stubs::finalize(&self.simplifier, out)
+        handing_out::finalize(&self.simplifier, out)
     }
 
     // The three passes, and then `finalize`. Refused with 10 where the working words are too few, and else with 13 where more than half

@@ -12,4 +12,3 @@ pub mod compare;
 mod questions;
 mod start;
 pub mod state;
-mod stubs;

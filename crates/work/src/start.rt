@@ -4,9 +4,9 @@ ghost use Rattle.std.specs.Prelude.{◌≡◌, ◌≤◌, ◌/◌, IfOk, IsOk, M
 ghost use Rattle.work.specs.Shown.{Shows};
 
 use crate::state::Work;
-use crate::stubs::{begin, refusal};
 use image::fault::Fault;
 use intake::state::Intake;
+use starting::{begin, refusal};
 use store::store::Store;
 
 impl<'i, S: Store> Work<'i, S> {

@@ -36,16 +36,16 @@ returns-clause-makes g c out =
     c.settle.ensures.made (n ∷ out)
     ∙ ap (λ Cs. each add Cs (work_of g.S.Lists.meaning c.take_out.new.s (n ∷ out))) (all_owed g (goal.at.returns-clause-makes g c).After-settle)
     ∙ ap (each add (lemmas Rs)) (c.take_out.ensures.ruled c.requires.small c.requires.indexed out)
-    ∙ sym (takes n W c.in-Some.cost (c.in-Some.ensures W refl refl) c.args.words.now c.in-Some-lemmas_of.count c.in-Some-lemmas_of.ensures.number).0
+    ∙ sym (takes n W c.in-Some.cost (c.in-Some.ensures W refl refl) c.args.words.now c.in-Some-lemmas_of.count c.in-Some-lemmas_of.ensures.number)
 
 pub returns-clause-top : goal.returns-clause-top
 returns-clause-top g c = ap (λ (W : Work). W.top) (returns-clause-makes g c []) ∙ attempt_top c.args.node (work_of g.S.Lists.meaning c.args.s.now [])
 
 pub returns-clause-waits : goal.returns-clause-waits
-returns-clause-waits g c = same_trans c.args.waiting.now c.take_out.new.waiting c.settle.new.waiting c.take_out.ensures.waits c.settle.ensures.waits
+returns-clause-waits g c = same_trans c.args.waiting.now c.take_out.new.waiting c.settle.new.waiting c.take_out.ensures.follows.waits c.settle.ensures.follows.waits
 
 pub returns-clause-counts : goal.returns-clause-counts
-returns-clause-counts g c top d = c.settle.ensures.counts (c.take_out.ensures.index c.requires.indexed) top (c.take_out.ensures.counts c.requires.indexed top d)
+returns-clause-counts g c top d = c.settle.ensures.follows.counts (c.take_out.ensures.follows.index c.requires.indexed) top (c.take_out.ensures.follows.counts c.requires.indexed top d)
 
 pub returns-clause-lent : goal.returns-clause-lent
 returns-clause-lent g c =

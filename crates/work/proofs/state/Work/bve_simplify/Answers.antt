@@ -1,6 +1,6 @@
 use Rattle.std.proofs.Common.{length}
 use Rattle.rules.specs.Calls.{bve_answer, bve_call, called}
-use Rattle.work.proofs.Answering.{leads_marked, fewer}
+use Rattle.work.proofs.Answering.{leads_answered, fewer}
 use Rattle.work.proofs.Reaching.{all_gone, keeps, small_turns, underway}
 use Rattle.work.proofs.state.Work.bve_simplify.Goals as goal
 
@@ -10,7 +10,7 @@ invariant_of-self g c =
     let n = length c.args.words.now in
     let w = c.args.self.now in
     let t = c.bve_simplify.new.s in
-    let L = leads_marked g.S.Lists.meaning (bve_answer n) w.simplifier t c.bve_simplify.result c.bve_simplify.ensures.makes c.bve_simplify.ensures.marks in
+    let L = leads_answered g.S.Lists.meaning (bve_answer n) w.simplifier t c.bve_simplify.result c.bve_simplify.ensures.makes in
     record { reached = underway g.S.Lists.meaning w.image.now w.simplifier t (bve_call n) L.work w.reached }
 
 pub returns-clause-keeps : goal.returns-clause-keeps
@@ -19,7 +19,7 @@ returns-clause-keeps g c =
     let n = length c.args.words.now in
     let w = c.args.self.now in
     let t = c.bve_simplify.new.s in
-    let L = leads_marked g.S.Lists.meaning (bve_answer n) w.simplifier t c.bve_simplify.result c.bve_simplify.ensures.makes c.bve_simplify.ensures.marks in
+    let L = leads_answered g.S.Lists.meaning (bve_answer n) w.simplifier t c.bve_simplify.result c.bve_simplify.ensures.makes in
     keeps g.S.Lists.meaning w.image.now w.simplifier t (bve_call n) L.work w.reached
 
 pub returns-clause-gone : goal.returns-clause-gone
@@ -28,7 +28,7 @@ returns-clause-gone g c =
     let n = length c.args.words.now in
     let w = c.args.self.now in
     let t = c.bve_simplify.new.s in
-    let L = leads_marked g.S.Lists.meaning (bve_answer n) w.simplifier t c.bve_simplify.result c.bve_simplify.ensures.makes c.bve_simplify.ensures.marks in
+    let L = leads_answered g.S.Lists.meaning (bve_answer n) w.simplifier t c.bve_simplify.result c.bve_simplify.ensures.makes in
     all_gone g.S.Lists.meaning w.image.now t (underway g.S.Lists.meaning w.image.now w.simplifier t (bve_call n) L.work w.reached)
 
 pub returns-clause-turns : goal.returns-clause-turns
@@ -39,5 +39,5 @@ returns-clause-fewer g c =
     let n = length c.args.words.now in
     let w = c.args.self.now in
     let t = c.bve_simplify.new.s in
-    let L = leads_marked g.S.Lists.meaning (bve_answer n) w.simplifier t c.bve_simplify.result c.bve_simplify.ensures.makes c.bve_simplify.ensures.marks in
+    let L = leads_answered g.S.Lists.meaning (bve_answer n) w.simplifier t c.bve_simplify.result c.bve_simplify.ensures.makes in
     fewer g.S.Lists.meaning w.image.now n w.simplifier t c.bve_simplify.result L w.reached

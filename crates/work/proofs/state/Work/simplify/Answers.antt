@@ -51,7 +51,7 @@ returns-in_err-subsume_simplify g c =
     let L₂ = lent_same meaning bve_answer s₁ s₂ (Ok k₂) n (length c.const_simplify.new.words) c.const_simplify.auto.words c.in_ok-bve_simplify.ensures.rules in
     let L₃ = lent_same meaning subsume_answer s₂ s₃ (Err f) n (length c.bve_simplify.new.words) (c.bve_simplify.auto.words ∙ c.const_simplify.auto.words) c.in_err-subsume_simplify.ensures.rules in
     absurd (subsume_never meaning n w.simplifier s₁ w.image.now c.in_ok-const_simplify.field-0 w.reached c.in_ok-const_simplify.ensures.rules c.in_ok-const_simplify.ensures.keeps
-        s₂ k₂ L₂ c.in_ok-bve_simplify.ensures.keeps s₃ f L₃)
+    s₂ k₂ L₂ c.in_ok-bve_simplify.ensures.keeps s₃ f L₃)
 
 pub returns : goal.returns
 returns g c =
@@ -66,8 +66,8 @@ returns g c =
     let L₂ = lent_same meaning bve_answer w₁.simplifier s₂ (Ok k₂) n (length c.const_simplify.new.words) c.const_simplify.auto.words c.in_ok-bve_simplify.ensures.rules in
     let L₃ = lent_same meaning subsume_answer s₂ w₃.simplifier (Ok c.in_ok-subsume_simplify.field-0) n (length c.bve_simplify.new.words) (c.bve_simplify.auto.words ∙ c.const_simplify.auto.words) c.in_ok-subsume_simplify.ensures.rules in
     let D = done meaning n w.simplifier w₁.simplifier w.image.now c.in_ok-const_simplify.field-0 w.reached L c.in_ok-const_simplify.ensures.keeps
-        s₂ k₂ L₂ c.in_ok-bve_simplify.ensures.keeps (length c.args.out.now) w₃.simplifier c.in_ok-subsume_simplify.field-0 L₃
-        c.finalize.result c.args.out.now c.finalize.new.out c.finalize.ensures.answer c.finalize.ensures.words in
+    s₂ k₂ L₂ c.in_ok-bve_simplify.ensures.keeps (length c.args.out.now) w₃.simplifier c.in_ok-subsume_simplify.field-0 L₃
+    c.finalize.result c.args.out.now c.finalize.new.out c.finalize.ensures.answer c.finalize.ensures.words in
     record {
       rules = D.0;
       words = D.1;
