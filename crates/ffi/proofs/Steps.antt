@@ -1,5 +1,5 @@
 -- The steps of a simplification over lent words. Assumes nothing.
-use Rattle.std.proofs.Common.{◌≡◌, ℕ, Bool, leb, cond, List, Ok, Err, IsOk, Result, sym, refl, ap, ◌∙◌}
+use Rattle.std.proofs.Common.{◌≡◌, ℕ, Bool, leb, cond, List, Ok, Err, IsOk, IfOk, MatchResult, Result, sym, refl, ap, ◌∙◌}
 use Rattle.std.proofs.lemmas.Bool.{and_from, cond-true}
 use Rattle.image.specs.Faults.{◌then◌, fault, tested}
 use Rattle.image.specs.declared.fault.Fault.{Fault}
@@ -13,22 +13,33 @@ use Rattle.slotted.specs.Tied.{blank}
 use Rattle.store.specs.Checks.{checked, fair_room, need_of, sized}
 use Rattle.ffi.specs.Simplified.{store_checked, prepared, simplified, simplified_over}
 
--- the work that was started, of which something holds
-pub started_at : {Q : Work → Type 0} (r : Result Work Fault) → (elim r as (λ _. Type 0) [ Ok W ↦ Q W | Err f ↦ ⊥ ]) → (W : Work) × (r ≡ Ok W) × Q W
-started_at (Ok W) h = (W, refl, h)
-started_at (Err f) h = absurd h
+not_both : {X E : Type 0} (q : Result X E) (x : X) (e : E) → q ≡ Ok x → q ≡ Err e → ⊥
+not_both q x e h k = cc
 
 -- equal refusals are of equal things
 refused_same : {X E : Type 0} (x y : E) → ◌≡◌ {A = Result X E} (Err x) (Err y) → x ≡ y
 refused_same x y h = cc
 
-not_both : {X E : Type 0} (q : Result X E) (x : E) → IsOk q → q ≡ Err x → ⊥
-not_both q x h e = cc
+ok_not_err : {X E : Type 0} (q : Result X E) (e : E) → IsOk q → q ≡ Err e → ⊥
+ok_not_err q e h k = cc
 
--- a start that gave a refusal back, with two other things, is refused with it
-pub refused_at : {A B X : Type 0} (r : Result Work Fault) (q : Result X (A × B × Fault)) (a b : A) (s t : B) (f : Fault) → (elim r as (λ _. Type 0) [ Ok W ↦ IsOk q | Err e ↦ q ≡ Err (b, t, e) ]) → q ≡ Err (a, s, f) → r ≡ Err f
-refused_at (Ok W) q a b s t f h e = absurd (not_both q (a, s, f) h e)
-refused_at (Err g) q a b s t f h e = ap (λ p. Err p.2) (refused_same (b, t, g) (a, s, f) (sym h ∙ e))
+-- what start answers, and what a call does that gives a refusal back with an intake and a store
+module _ {I S X : Type 0} (r : Result Work Fault) (q : Result X (I × S × Fault)) (i : I) (s : S) (m : MatchResult r (λ W. IsOk q) (λ f. q ≡ Err (i, s, f))) where
+  -- answered, it has started a work, of which something holds
+  pub started_at : {Q : Work → Type 0} (w : X) → q ≡ Ok w → IfOk r Q → (W : Work) × (r ≡ Ok W) × Q W
+  started_at w = go r m
+    where
+      go : {Q : Work → Type 0} (r : Result Work Fault) → MatchResult r (λ W. IsOk q) (λ f. q ≡ Err (i, s, f)) → q ≡ Ok w → IfOk r Q → (W : Work) × (r ≡ Ok W) × Q W
+      go (Ok W) m e h = (W, refl, h)
+      go (Err f) m e h = absurd (not_both q w (i, s, f) e m)
+
+  -- refused, with the refusal that it gave back
+  pub refused_at : (j : I) (t : S) (f : Fault) → q ≡ Err (j, t, f) → r ≡ Err f
+  refused_at j t f = go r m
+    where
+      go : (r : Result Work Fault) → MatchResult r (λ W. IsOk q) (λ e. q ≡ Err (i, s, e)) → q ≡ Err (j, t, f) → r ≡ Err f
+      go (Ok W) m e = absurd (ok_not_err q (j, t, f) m e)
+      go (Err g) m e = ap (λ p. Err p.2) (refused_same (i, s, g) (j, t, f) (sym m ∙ e))
 
 module _ (n m : ℕ) (ws : List ℕ) (fs : List Bool) (M : Meaning) where
   pub over_at : (W : Work) → start ws fs M ≡ Ok W → simplified_over n m ws fs M ≡ (simplify_answer n m W).1

@@ -1,11 +1,12 @@
 -- What the library answers of the words lent to it, and what it writes in them. Assumes nothing.
-use Rattle.std.specs.Prelude.{ℕ, Bool, true, false, List, length, Err, Ok, Result}
+use Rattle.std.specs.Prelude.{ℕ, ◌≤◌, Bool, true, false, List, length, Err, Ok, Result, IfErr, IfOk}
 use Rattle.image.specs.Faults.{◌then◌}
 use Rattle.image.specs.declared.fault.Fault.{Fault}
 use Rattle.intake.specs.Answers.{only_zero}
 use Rattle.input.specs.Inputs.{image_answer, with_frozen}
 use Rattle.rules.specs.Store.{Meaning}
 use Rattle.rules.specs.Calls.{start, simplify_answer}
+use Rattle.rules.specs.Theorem.{SameSettings, flags}
 use Rattle.slotted.specs.Tied.{blank}
 use Rattle.store.specs.Checks.{checked}
 
@@ -38,3 +39,13 @@ number_told (Err f) = f.number
 abbrev pub place_told : Result (List ℕ) Fault → ℕ
 place_told (Ok ws) = length ws
 place_told (Err f) = f.place
+
+-- ## What holds of every answer
+
+-- the image handed out admits exactly the settings of the frozen nodes that the image taken in admits
+abbrev pub Settled : List ℕ → List ℕ → Result (List ℕ) Fault → Type 0
+Settled ws ns r = IfOk r (λ vs. SameSettings (flags (with_frozen only_zero ns)) vs ws)
+
+-- where it is a refusal, its number is one of the table, and so not 0
+pub record Numbered {X : Type 0} (r : Result X Fault) : Type 0 where
+  pub number : IfErr r (λ f. (1 ≤ f.number) × (f.number ≤ 14))

@@ -6,7 +6,7 @@
 // `input` (the intake of an image), `scanned` and `indexed` (the stores) and `work` (the calls).
 #![tactic(auto)]
 
-ghost use Rattle.ffi.specs.Simplified.{number_told, place_told, simplified};
+ghost use Rattle.ffi.specs.Simplified.{Numbered, Settled, number_told, place_told, simplified};
 ghost use Rattle.handing_out.specs.Outcome.{left_in};
 ghost use Rattle.std.specs.Prelude.{◌≡◌, length};
 
@@ -19,6 +19,7 @@ use crate::simplify::simplify_words;
 // number of a refusal in the table of docs/RULES.md, `told` its place, and `out` as it was. The caller has to lend slices that are valid
 // and apart from each other; their words may be any.
 #[unsafe(no_mangle)]
+#[tactic(auto, using(crate::proofs::Numbers::numbered, crate::proofs::Settings::settled))]
 pub extern "C" fn dilkaums_simplify(
     image: &[u32],
     frozen: &[u32],
@@ -32,6 +33,8 @@ pub extern "C" fn dilkaums_simplify(
     ensures number { result ≡ number_told (simplified indexed image.now frozen.now room (length store.old) (length working.old) (length out.old)) }
     ensures place { told.new ≡ place_told (simplified indexed image.now frozen.now room (length store.old) (length working.old) (length out.old)) }
     ensures out { out.new ≡ left_in out.old (simplified indexed image.now frozen.now room (length store.old) (length working.old) (length out.old)) }
+    ensures settings { Settled image.now frozen.now (simplified indexed image.now frozen.now room (length store.old) (length working.old) (length out.old)) }
+    ensures refused { Numbered (simplified indexed image.now frozen.now room (length store.old) (length working.old) (length out.old)) }
 {
     match simplify_words(image, frozen, indexed, room, store, working, out) {
         Ok(written) => {
