@@ -26,7 +26,7 @@ enum dilkaums_answer {
     DILKAUMS_SHORT = 10,    /* too few words for the store, or too few working words; place: the number needed */
     DILKAUMS_FULL = 11,     /* too many clauses for the room; place: their number, with node 0's */
     DILKAUMS_LOOSE = 12,    /* a node that is not frozen is loose; place: the lowest */
-    DILKAUMS_HALF = 13,     /* more than half of the room is live; place: the number of live clauses; never of a fresh start */
+    DILKAUMS_HALF = 13,     /* more than half of the room is live; place: the number of live clauses; not of a work just started */
     DILKAUMS_MARGIN = 14    /* too few words for the image that is handed out; place: the number needed */
 };
 
@@ -45,7 +45,7 @@ enum dilkaums_answer {
    - each pointer is to as many words as its length says, aligned as a uint32_t, and is not NULL, also where the length is 0;
    - `store`, `working`, `out` and `told` can be written, and none of them overlaps another or `image` or `frozen`;
    - nothing else reads or writes them during the call (`image` and `frozen` may be read);
-   - there are 256 KiB of stack. */
+   - 64 KiB of the stack are free. */
 uint32_t dilkaums_simplify(const uint32_t *image, size_t image_len, const uint32_t *frozen, size_t frozen_len, bool indexed, uint32_t room,
                            uint32_t *store, size_t store_len, uint32_t *working, size_t working_len, uint32_t *out, size_t out_len,
                            uint32_t *told);

@@ -1,14 +1,13 @@
 -- Every refusal is one of the table, so none has the number 0, which says that all is done. Assumes nothing.
-use Rattle.std.proofs.Common.{◌≡◌, ℕ, zero, suc, ◌+◌, ◌≤◌, Bool, true, false, cond, List, [], ◌∷◌, Some, None, Option, Ok, Err, Result, arith}
+use Rattle.std.proofs.Common.{ℕ, zero, suc, ◌≤◌, Bool, true, false, cond, List, [], ◌∷◌, Some, None, Option, Ok, Err, Result, arith}
 use Rattle.std.proofs.lemmas.Bool.{cond_both}
 use Rattle.image.specs.Faults.{◌then◌, fault, tested}
 use Rattle.image.specs.declared.fault.Fault.{Fault}
-use Rattle.intake.specs.Answers.{froze_answer, node_answer, nodes_answer, rows_answer, searched, take_in_answer}
-use Rattle.input.specs.Inputs.{freeze_answer, image_answer}
+use Rattle.intake.specs.Answers.{node_answer, nodes_answer, rows_answer, searched, take_in_answer}
+use Rattle.input.specs.Inputs.{freeze_answer}
 use Rattle.rules.specs.Store.{Meaning}
 use Rattle.rules.specs.Work.{Work}
-use Rattle.rules.specs.Calls.{finalize_answer, finalized, half, simplified_work, simplify_answer, start, unless_loose}
-use Rattle.store.specs.Checks.{checked}
+use Rattle.rules.specs.Calls.{finalize_answer, simplify_answer, start, unless_loose}
 use Rattle.ffi.specs.Simplified.{Numbered, prepared, simplified, simplified_over, store_checked}
 
 module _ {X : Type 0} where

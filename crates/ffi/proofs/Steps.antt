@@ -1,7 +1,7 @@
 -- The steps of a simplification over lent words. Assumes nothing.
 use Rattle.std.proofs.Common.{◌≡◌, ℕ, Bool, leb, cond, List, Ok, Err, IsOk, IfOk, MatchResult, Result, sym, refl, ap, ◌∙◌}
 use Rattle.std.proofs.lemmas.Bool.{and_from, cond-true}
-use Rattle.image.specs.Faults.{◌then◌, fault, tested}
+use Rattle.image.specs.Faults.{fault, tested}
 use Rattle.image.specs.declared.fault.Fault.{Fault}
 use Rattle.intake.specs.Answers.{only_zero}
 use Rattle.intake.proofs.Steps.{cond_ok, then_at, then_ok, then_stop}
@@ -13,33 +13,24 @@ use Rattle.slotted.specs.Tied.{blank}
 use Rattle.store.specs.Checks.{checked, fair_room, need_of, sized}
 use Rattle.ffi.specs.Simplified.{store_checked, prepared, simplified, simplified_over}
 
-not_both : {X E : Type 0} (q : Result X E) (x : X) (e : E) → q ≡ Ok x → q ≡ Err e → ⊥
-not_both q x e h k = cc
+not_both : {X E : Type 0} (q : Result X E) (e : E) → IsOk q → q ≡ Err e → ⊥
+not_both q e h k = cc
 
 -- equal refusals are of equal things
 refused_same : {X E : Type 0} (x y : E) → ◌≡◌ {A = Result X E} (Err x) (Err y) → x ≡ y
 refused_same x y h = cc
 
-ok_not_err : {X E : Type 0} (q : Result X E) (e : E) → IsOk q → q ≡ Err e → ⊥
-ok_not_err q e h k = cc
+-- a call that answers where start does, and where not, gives things back with the refusal
+module _ {X E : Type 0} (back : Fault → E) where
+  -- answered, start has made a work, of which something holds
+  pub started_at : {Q : Work → Type 0} (r : Result Work Fault) (q : Result X E) → MatchResult r (λ W. IsOk q) (λ f. q ≡ Err (back f)) → IsOk q → IfOk r Q → (W : Work) × (r ≡ Ok W) × Q W
+  started_at (Ok W) q m o h = (W, refl, h)
+  started_at (Err f) q m o h = absurd (not_both q (back f) o m)
 
--- what start answers, and what a call does that gives a refusal back with an intake and a store
-module _ {I S X : Type 0} (r : Result Work Fault) (q : Result X (I × S × Fault)) (i : I) (s : S) (m : MatchResult r (λ W. IsOk q) (λ f. q ≡ Err (i, s, f))) where
-  -- answered, it has started a work, of which something holds
-  pub started_at : {Q : Work → Type 0} (w : X) → q ≡ Ok w → IfOk r Q → (W : Work) × (r ≡ Ok W) × Q W
-  started_at w = go r m
-    where
-      go : {Q : Work → Type 0} (r : Result Work Fault) → MatchResult r (λ W. IsOk q) (λ f. q ≡ Err (i, s, f)) → q ≡ Ok w → IfOk r Q → (W : Work) × (r ≡ Ok W) × Q W
-      go (Ok W) m e h = (W, refl, h)
-      go (Err f) m e h = absurd (not_both q w (i, s, f) e m)
-
-  -- refused, with the refusal that it gave back
-  pub refused_at : (j : I) (t : S) (f : Fault) → q ≡ Err (j, t, f) → r ≡ Err f
-  refused_at j t f = go r m
-    where
-      go : (r : Result Work Fault) → MatchResult r (λ W. IsOk q) (λ e. q ≡ Err (i, s, e)) → q ≡ Err (j, t, f) → r ≡ Err f
-      go (Ok W) m e = absurd (ok_not_err q (j, t, f) m e)
-      go (Err g) m e = ap (λ p. Err p.2) (refused_same (i, s, g) (j, t, f) (sym m ∙ e))
+  -- refused, start has given the refusal that came back
+  pub refused_at : (r : Result Work Fault) (q : Result X E) (e : E) → MatchResult r (λ W. IsOk q) (λ f. q ≡ Err (back f)) → q ≡ Err e → (f : Fault) × (r ≡ Err f) × (e ≡ back f)
+  refused_at (Ok W) q e m k = absurd (not_both q e m k)
+  refused_at (Err f) q e m k = (f, refl, refused_same e (back f) (sym k ∙ m))
 
 module _ (n m : ℕ) (ws : List ℕ) (fs : List Bool) (M : Meaning) where
   pub over_at : (W : Work) → start ws fs M ≡ Ok W → simplified_over n m ws fs M ≡ (simplify_answer n m W).1

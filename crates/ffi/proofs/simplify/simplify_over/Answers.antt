@@ -1,28 +1,19 @@
-use Rattle.std.proofs.Common.{length, sym, refl, ap, ◌∙◌}
+use Rattle.std.proofs.Common.{rules, length, Err, refl, sym, ap, ◌∙◌}
 use Rattle.handing_out.specs.Outcome.{counted, left_in}
 use Rattle.ffi.proofs.Steps.{started_at, refused_at, over_at, over_stops}
 use Rattle.ffi.proofs.simplify.simplify_over.Goals as goal
 
-pub returns-in-Ok-clause-answer : goal.returns-in-Ok-clause-answer
-returns-in-Ok-clause-answer g c =
+pub returns-in-Ok : goal.returns-in-Ok
+returns-in-Ok g c =
     let i = c.args.intake in
-    let (W, e, shown) = started_at _ c.start.result i c.args.store c.start.ensures.answer c.in-Ok.work c.in-Ok.is c.in-Ok.ensures.work in
-    c.simplify.ensures.rules.answer W shown ∙ ap counted (sym (over_at (length c.args.working.now) (length c.args.out.now) i.image.now i.frozen (g.S.Lists.meaning c.args.store) W e))
+    let (W, e, shown) = started_at (λ f. (i, c.args.store, f)) _ c.start.result c.start.ensures.answer (rw c.in-Ok.is refl) c.in-Ok.ensures.work in
+    let s = sym (over_at (length c.args.working.now) (length c.args.out.now) i.image.now i.frozen (g.S.Lists.meaning c.args.store) W e) in
+    let o = c.simplify.ensures in
+    record { answer = o.rules.answer W shown ∙ ap counted s; out = o.words W shown ∙ ap (left_in c.args.out.now) s; working = search rules }
 
-pub returns-in-Ok-clause-out : goal.returns-in-Ok-clause-out
-returns-in-Ok-clause-out g c =
+pub returns : goal.returns
+returns g c =
     let i = c.args.intake in
-    let (W, e, shown) = started_at _ c.start.result i c.args.store c.start.ensures.answer c.in-Ok.work c.in-Ok.is c.in-Ok.ensures.work in
-    c.simplify.ensures.words W shown ∙ ap (left_in c.args.out.now) (sym (over_at (length c.args.working.now) (length c.args.out.now) i.image.now i.frozen (g.S.Lists.meaning c.args.store) W e))
-
-pub returns-clause-answer : goal.returns-clause-answer
-returns-clause-answer g c =
-    let i = c.args.intake in
-    let e = refused_at _ c.start.result i c.args.store c.start.ensures.answer _ _ c.in-Err.fault c.in-Err.is in
-    ap counted (sym (over_stops (length c.args.working.now) (length c.args.out.now) i.image.now i.frozen (g.S.Lists.meaning c.args.store) _ e))
-
-pub returns-clause-out : goal.returns-clause-out
-returns-clause-out g c =
-    let i = c.args.intake in
-    let e = refused_at _ c.start.result i c.args.store c.start.ensures.answer _ _ c.in-Err.fault c.in-Err.is in
-    ap (left_in c.args.out.now) (sym (over_stops (length c.args.working.now) (length c.args.out.now) i.image.now i.frozen (g.S.Lists.meaning c.args.store) _ e))
+    let (f, e, same) = refused_at (λ f. (i, c.args.store, f)) _ c.start.result _ c.start.ensures.answer c.in-Err.is in
+    let s = sym (over_stops (length c.args.working.now) (length c.args.out.now) i.image.now i.frozen (g.S.Lists.meaning c.args.store) f e) in
+    record { answer = ap (λ p. Err p.2) same ∙ ap counted s; out = ap (left_in c.args.out.now) s; working = search rules }
