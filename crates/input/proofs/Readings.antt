@@ -7,7 +7,7 @@ use Rattle.std.specs.Simd.{first_chunks}
 use Rattle.intake.specs.Answers.{take_in_answer}
 use Rattle.intake.proofs.Steps.{then_at, then_stop}
 use Rattle.image.specs.declared.fault.Fault.{Fault}
-use Rattle.input.specs.Inputs.{word, words_of, input_words, parts, freeze_answer, open_answer}
+use Rattle.input.specs.Inputs.{word, words_of, input_words, parts, freeze_answer, image_answer, open_answer}
 
 words_step : (xs : List ℕ) → 4 ≤ length xs → words_of xs ≡ word (get_or xs 0 0) (get_or xs 1 0) (get_or xs 2 0) (get_or xs 3 0) ∷ words_of (drop 4 xs)
 unfolding words_of
@@ -47,16 +47,20 @@ decoding_end bytes old out words k n c i l q few m (a, d) =
     ap (λ (j : ℕ). take j out) (sym i) ∙ sym (append-nil (take k out)) ∙ ap (λ (z : List (List ℕ)). take k out ++ map f z) (sym (drop_of_length-le words (omega arith))) ∙ a ∙ ap (map f) c ∙ sym (words_are (length bytes / 4) bytes (omega arith) (omega arith)) in
     (few, cond-true _ _ _ (and_from _ _ (le-leb (length bytes) 65536 (omega arith)) (eq-eqb _ _ m)) ∙ ap Ok (sym e), ap (λ (j : ℕ). drop j out) (sym i) ∙ d ∙ ap (λ (j : ℕ). drop j old) i)
 
+-- an image and nodes
+module _ (ws ns : List ℕ) where
+  pub image_refused : (f : Fault) → Err f ≡ take_in_answer ws → Err f ≡ image_answer ws ns
+  image_refused f i = sym (then_stop (take_in_answer ws) _ f (sym i))
+
+  pub image_all : (u : Unit {0}) (c : List ℕ) (r : Result (Unit {0}) Fault) → Ok u ≡ take_in_answer ws → c ≡ ws → r ≡ freeze_answer c ns → r ≡ image_answer ws ns
+  image_all u c r i q h = h ∙ ap (λ (z : List ℕ). freeze_answer z ns) q ∙ sym (then_at (take_in_answer ws) _ u (sym i))
+
 -- the whole input
 pub input_split : (ws : List ℕ) (f : Fault) → parts ws ≡ Err f → Err f ≡ open_answer ws
 unfolding open_answer
 input_split ws f e = sym (then_stop (parts ws) _ f e)
 
 module _ (ws a b : List ℕ) (e : parts ws ≡ Ok (a, b)) where
-  pub input_image : (f : Fault) → Err f ≡ take_in_answer b → Err f ≡ open_answer ws
+  pub input_all : (r : Result (Unit {0}) Fault) → r ≡ image_answer b a → r ≡ open_answer ws
   unfolding open_answer
-  input_image f i = sym (then_at (parts ws) _ (a, b) e ∙ then_stop (take_in_answer b) _ f (sym i))
-
-  pub input_all : (u : Unit {0}) (c : List ℕ) (r : Result (Unit {0}) Fault) → Ok u ≡ take_in_answer b → c ≡ b → r ≡ freeze_answer c a → r ≡ open_answer ws
-  unfolding open_answer
-  input_all u c r i q h = h ∙ ap (λ (z : List ℕ). freeze_answer z a) q ∙ sym (then_at (parts ws) _ (a, b) e ∙ then_at (take_in_answer b) _ u (sym i))
+  input_all r h = h ∙ sym (then_at (parts ws) _ (a, b) e)

@@ -35,9 +35,13 @@ abbrev pub with_frozen : List Bool → List ℕ → List Bool
 with_frozen fs [] = fs
 with_frozen fs (n ∷ ns) = with_frozen (slice_set fs n true) ns
 
+-- what taking an image in and then freezing nodes in order answers
+abbrev pub image_answer : List ℕ → List ℕ → Result (Unit {0}) Fault
+image_answer ws ns = take_in_answer ws then (λ _. freeze_answer ws ns)
+
 -- what opening an input answers
 unfoldable pub open_answer : List ℕ → Result (Unit {0}) Fault
-open_answer ws = parts ws then (λ p. take_in_answer p.1 then (λ _. freeze_answer p.1 p.0))
+open_answer ws = parts ws then (λ p. image_answer p.1 p.0)
 
 -- the image and the flags are those of an input
 abbrev pub Opened : List ℕ → List ℕ → List Bool → Type 0

@@ -1,5 +1,6 @@
-ghost use Rattle.input.specs.Inputs.{Opened, OpenedBytes, bytes_answer, freeze_answer, open_answer, parts, with_frozen};
+ghost use Rattle.input.specs.Inputs.{Opened, OpenedBytes, bytes_answer, freeze_answer, image_answer, open_answer, parts, with_frozen};
 ghost use Rattle.std.specs.Prelude.{◌≡◌, Ok, Err, OnOk};
+ghost use Rattle.intake.specs.Answers.{only_zero};
 
 use crate::bytes::decode;
 use image::fault::{Fault, Refusal};
@@ -28,17 +29,25 @@ fn freeze_all(nodes: &[u32], into: &mut Intake<'_>) -> Result<(), Fault>
     Ok(())
 }
 
+// Takes an image in, and freezes nodes in order; or refuses it, and changes nothing.
+pub fn open_image<'i>(nodes: &[u32], image: &'i [u32], into: &mut Intake<'i>) -> Result<(), Fault>
+    ensures answer { result ≡ image_answer image.now nodes.now }
+    ensures into { elim result [ Ok _ ↦ (into.new.image ≡ image.entry) × (into.new.frozen ≡ with_frozen only_zero nodes.now) | Err f ↦ into.new ≡ into.old ] }
+{
+    let mut opened = Intake::smallest();
+    take_in(image, &mut opened)?;
+    freeze_all(nodes, &mut opened)?;
+    *into = opened;
+    Ok(())
+}
+
 // Takes the image of an input in, and freezes its nodes; or refuses it, and changes nothing.
 pub fn open_input<'i>(words: &'i [u32], into: &mut Intake<'i>) -> Result<(), Fault>
     ensures answer { result ≡ open_answer words.now }
     ensures into { elim result [ Ok _ ↦ Opened words.now into.new.image.now into.new.frozen | Err f ↦ into.new ≡ into.old ] }
 {
     let (nodes, image) = split(words)?;
-    let mut opened = Intake::smallest();
-    take_in(image, &mut opened)?;
-    freeze_all(nodes, &mut opened)?;
-    *into = opened;
-    Ok(())
+    open_image(nodes, image, into)
 }
 
 // Opens an input from its bytes, by way of `words`; or refuses it, and leaves the intake as it was.
