@@ -13,6 +13,7 @@ use Rattle.slotted.specs.Tied.{blank}
 use Rattle.store.specs.Checks.{checked, fair_room, need_of, sized}
 use Rattle.ffi.specs.Simplified.{store_checked, prepared, simplified, simplified_over}
 
+-- an answer is no refusal
 not_both : {X E : Type 0} (q : Result X E) (e : E) → IsOk q → q ≡ Err e → ⊥
 not_both q e h k = cc
 
