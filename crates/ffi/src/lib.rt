@@ -16,9 +16,9 @@ use crate::simplify::simplify_words;
 
 // Simplifies the image of a network, with nodes of it frozen, over a store, indexed or scanned, with room for so many clauses, and
 // writes the image handed out to the front of `out`. The answer is 0, and `told` the number of words written; or the answer is the
-// number of a refusal in the table of docs/RULES.md, `told` its place, and `out` as it was, the working words too unless
-// it is 14, and the words of the store unless it was made. The caller has to lend slices that are valid
-// and apart from each other; their words may be any.
+// number of a refusal in the table of docs/RULES.md, and `told` its place. Then `out` is as it was, the working words too unless the
+// refusal is 14, and the words of the store unless it was made. The caller has to lend slices that are valid and apart from each other;
+// their words may be any.
 #[unsafe(no_mangle)]
 #[tactic(auto, using(crate::proofs::Numbers::numbered, crate::proofs::Settings::settled))]
 pub extern "C" fn dilkaums_simplify(
