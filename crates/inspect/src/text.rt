@@ -5,7 +5,7 @@ use std::alloc::AllocError;
 use std::io;
 
 // Prints a clause, as `(!1 | 2)`.
-fn print_clause(rt: &HostRuntime, clause: &[u32]) -> io::Result<()> {
+pub fn print_clause(rt: &HostRuntime, clause: &[u32]) -> io::Result<()> {
     let mut before = "(";
     for l in clause {
         let literal = Lit::from(*l);
@@ -27,7 +27,7 @@ fn print_node(rt: &HostRuntime, run: Run<'_>) -> io::Result<()> {
 }
 
 // Prints the nodes behind a word, on a line.
-fn print_nodes(rt: &HostRuntime, word: &str, nodes: &[u32]) -> io::Result<()> {
+pub fn print_nodes(rt: &HostRuntime, word: &str, nodes: &[u32]) -> io::Result<()> {
     print!(rt; "{word}")?;
     for n in nodes {
         print!(rt; " {n}")?;

@@ -17,8 +17,8 @@ use Rattle.rules.specs.Calls.{need, lent, half, with_live, with_out, finalized, 
 use Rattle.rules.specs.Theorem.{flags}
 use Rattle.simplifier.specs.declared.state.Simplifier.{Simplifier}
 use Rattle.simplifier.specs.Shown.{work_of}
-use Rattle.handing_out.specs.Outcome.{counted, left_in}
 use Rattle.elimination.specs.Outs.{Answered}
+use Rattle.handing_out.specs.Outcome.{counted, left_in}
 use Rattle.work.specs.Shown.{Marks, Shows, Underway, Leads}
 use Rattle.work.specs.Promises.{Keeps, Faithful, words_of}
 use Rattle.work.proofs.Reaching.{shrinks_of}
@@ -48,7 +48,7 @@ module _ {S R : Type 0} (meaning : S → Meaning) (call : Work → Work × R) (s
       (λ out m. subst (Marks t.taken_out) (ap (λ p. p.0.out) (makes out)) (subst (λ fs. Marks fs out) (sym kept) m))
 
 -- a call that was lent as many words
-pub lent_same : {S R : Type 0} (meaning : S → Meaning) (call : ℕ → Work → Work × R) (s t : Simplifier S) (r : R) (n k : ℕ) → k ≡ n → Leads meaning (call k) s t r → Leads meaning (call n) s t r
+lent_same : {S R : Type 0} (meaning : S → Meaning) (call : ℕ → Work → Work × R) (s t : Simplifier S) (r : R) (n k : ℕ) → k ≡ n → Leads meaning (call k) s t r → Leads meaning (call n) s t r
 lent_same meaning call s t r n k e L = subst (λ j. Leads meaning (call j) s t r) e L
 
 -- ## What is handed out
@@ -158,25 +158,25 @@ module _ {S : Type 0} (meaning : S → Meaning) (n : ℕ) (s s₁ : Simplifier S
     enough₁ : (W : Work) → Shows meaning s W → leb (need (const_answer n W).0) n ≡ true
     enough₁ W T = enough_on meaning ws n s s₁ W (const_answer n W).0 K T (L.work W T) (granted_first n 0 W k (sym (L.answer W T))).0
 
-    pub bve_never : (s₂ : Simplifier S) (f : Fault) → Leads meaning (bve_answer n) s₁ s₂ (Err f) → ⊥
-    bve_never s₂ f L₂ = ∥∥₁_elim h ⊥_prop (λ U.
+    pub bve_never : (j : ℕ) → j ≡ n → (s₂ : Simplifier S) (f : Fault) → Leads meaning (bve_answer j) s₁ s₂ (Err f) → ⊥
+    bve_never j e s₂ f L₂ = ∥∥₁_elim h ⊥_prop (λ U.
         let N = (const_answer n U.work).0 in
-        refuses (with_out N (bve_simplify N)).1 f tt (L₂.answer N (L.work U.work U.shown) ∙ ap (λ a. a.1) (bve_granted n N (enough₁ U.work U.shown))))
+        refuses (with_out N (bve_simplify N)).1 f tt ((lent_same meaning bve_answer s₁ s₂ (Err f) n j e L₂).answer N (L.work U.work U.shown) ∙ ap (λ a. a.1) (bve_granted n N (enough₁ U.work U.shown))))
 
-    module _ (s₂ : Simplifier S) (k₂ : ℕ × ℕ) (L₂ : Leads meaning (bve_answer n) s₁ s₂ (Ok k₂)) (K₂ : Keeps meaning s₁ s₂) where
+    module _ (j : ℕ) (e : j ≡ n) (s₂ : Simplifier S) (k₂ : ℕ × ℕ) (L₂ : Leads meaning (bve_answer j) s₁ s₂ (Ok k₂)) (K₂ : Keeps meaning s₁ s₂) where
       T₂ : (W : Work) → Shows meaning s W → Shows meaning s₂ (bve_answer n (const_answer n W).0).0
-      T₂ W T = L₂.work (const_answer n W).0 (L.work W T)
+      T₂ W T = (lent_same meaning bve_answer s₁ s₂ (Ok k₂) n j e L₂).work (const_answer n W).0 (L.work W T)
 
       enough₂ : (W : Work) → Shows meaning s W → leb (need (bve_answer n (const_answer n W).0).0) n ≡ true
       enough₂ W T = enough_on meaning ws n s₁ s₂ (const_answer n W).0 (bve_answer n (const_answer n W).0).0 K₂ (L.work W T) (T₂ W T) (enough₁ W T)
 
-      pub subsume_never : (s₃ : Simplifier S) (f : Fault) → Leads meaning (subsume_answer n) s₂ s₃ (Err f) → ⊥
-      subsume_never s₃ f L₃ = ∥∥₁_elim h ⊥_prop (λ U.
+      pub subsume_never : (i : ℕ) → i ≡ j → (s₃ : Simplifier S) (f : Fault) → Leads meaning (subsume_answer i) s₂ s₃ (Err f) → ⊥
+      subsume_never i d s₃ f L₃ = ∥∥₁_elim h ⊥_prop (λ U.
           let N = (bve_answer n (const_answer n U.work).0).0 in
-          refuses (with_live (subsume_simplify N)).1 f tt (L₃.answer N (T₂ U.work U.shown) ∙ ap (λ a. a.1) (subsume_granted n N (enough₂ U.work U.shown))))
+          refuses (with_live (subsume_simplify N)).1 f tt ((lent_same meaning subsume_answer s₂ s₃ (Err f) n i (d ∙ e) L₃).answer N (T₂ U.work U.shown) ∙ ap (λ a. a.1) (subsume_granted n N (enough₂ U.work U.shown))))
 
       -- all three passes were done
-      module _ (m : ℕ) (s₃ : Simplifier S) (k₃ : ℕ) (L₃ : Leads meaning (subsume_answer n) s₂ s₃ (Ok k₃)) where
+      module _ (m i : ℕ) (d : i ≡ j) (s₃ : Simplifier S) (k₃ : ℕ) (L₃ : Leads meaning (subsume_answer i) s₂ s₃ (Ok k₃)) where
         all_done : (W : Work) → Shows meaning s W → (subsume_answer n (bve_answer n (const_answer n W).0).0).0 ≡ simplified_work W
         all_done W T =
             ap (λ a. a.0) (subsume_granted n (bve_answer n (const_answer n W).0).0 (enough₂ W T))
@@ -184,7 +184,7 @@ module _ {S : Type 0} (meaning : S → Meaning) (n : ℕ) (s s₁ : Simplifier S
             ∙ ap (λ V. subsume_simplify (bve_simplify V)) (granted_first n m W k (sym (L.answer W T))).1
 
         all_shown : (W : Work) → Shows meaning s W → Shows meaning s₃ (simplified_work W)
-        all_shown W T = subst (Shows meaning s₃) (all_done W T) (L₃.work (bve_answer n (const_answer n W).0).0 (T₂ W T))
+        all_shown W T = subst (Shows meaning s₃) (all_done W T) ((lent_same meaning subsume_answer s₂ s₃ (Ok k₃) n i (d ∙ e) L₃).work (bve_answer n (const_answer n W).0).0 (T₂ W T))
 
         is : (W : Work) → Shows meaning s W → simplify_answer n m W ≡ finalized m (simplified_work W)
         is W T = (granted_first n m W k (sym (L.answer W T))).2

@@ -42,11 +42,13 @@ use Rattle.work.proofs.Searching.{settings_known}
 
 -- ## Which nodes are frozen
 
--- a reached work has the nodes frozen that its start had
-frozen_as : (ws : List ℕ) (fs : List Bool) (W : Work) → Reached ws fs W → W.frozen ≡ flags fs
-frozen_as ws fs W R =
+-- a reached work has the nodes of its image, and has those frozen that its start had
+nodes_as : (ws : List ℕ) (fs : List Bool) (W : Work) → Reached ws fs W → (W.top ≡ top ws) × (W.frozen ≡ flags fs)
+nodes_as ws fs W R =
     let p = start_parts ws fs R.store R.first R.right R.zero R.starts in
-    (reached_sound ws fs W R).nodes.1 ∙ ap (λ U. U.frozen) p.is ∙ (start_nodes ws p.image fs R.zero p.gates R.store p.enough).1
+    let (a, b) = start_nodes ws p.image fs R.zero p.gates R.store p.enough in
+    let q = (reached_sound ws fs W R).nodes in
+    (q.0 ∙ ap (λ U. U.top) p.is ∙ a, q.1 ∙ ap (λ U. U.frozen) p.is ∙ b)
 
 loose_same : (ws : List ℕ) (fs gs : List Bool) → flags fs ≡ flags gs → (k : ℕ) → loose_nodes ws fs k ≡ loose_nodes ws gs k
 unfolding loose_nodes
@@ -97,19 +99,24 @@ unset (suc n) (suc k) = unset n k
 
 module _ {S : Type 0} (meaning : S → Meaning) (ws : List ℕ) (fs : List Bool) (M : Meaning) (s : Simplifier S)
     (is : work_of meaning s [] ≡ started ws fs M) (none : s.taken_out ≡ replicate 1024 false) where
+  pub none_marked : (k : ℕ) → flags s.taken_out k ≡ false
+  none_marked k = ap (λ t. flags t k) none ∙ unset 1024 k
+
   pub shown_started : Shows meaning s (started ws fs M)
-  shown_started = subst (Shows meaning s) is (record { is = refl; marks = λ k. ap (λ t. flags t k) none ∙ unset 1024 k })
+  shown_started = subst (Shows meaning s) is (record { is = refl; marks = none_marked })
 
   module _ (right : accepts ws ≡ true) (zero : flags fs 0 ≡ true) (starts : start ws fs M ≡ Ok (started ws fs M)) where
+    first_reached : Reached ws fs (started ws fs M)
+    first_reached = record { right = right; zero = zero; store = M; first = started ws fs M; starts = starts; calls = []; is = refl }
+
+    frozen_started : flags s.frozen ≡ flags fs
+    frozen_started = ap (λ W. W.frozen) is ∙ (nodes_as ws fs (started ws fs M) first_reached).1
+
+    pub each_frozen : (n : ℕ) → flags s.frozen n ≡ flags fs n
+    each_frozen n = ap (λ f. f n) frozen_started
+
     pub underway_started : Underway meaning ws s
-    underway_started = record {
-      work = started ws fs M;
-      shown = shown_started;
-      reached = reached_by ws fs s.frozen (started ws fs M) (sym (ap (λ W. W.frozen) is ∙ frozen_as ws fs (started ws fs M) R)) R;
-    }
-      where
-        R : Reached ws fs (started ws fs M)
-        R = record { right = right; zero = zero; store = M; first = started ws fs M; starts = starts; calls = []; is = refl }
+    underway_started = record { work = started ws fs M; shown = shown_started; reached = reached_by ws fs s.frozen (started ws fs M) (sym frozen_started) first_reached }
 
     pub half_free : live_clauses (meaning s.store) ≤ (meaning s.store).room / 2
     half_free =
@@ -202,7 +209,7 @@ module _ {S : Type 0} (meaning : S → Meaning) (ws : List ℕ) (s t : Simplifie
     underway_on : Underway meaning ws t
     underway_on =
         let R : Reached ws s.frozen (called c U.work) = calls_lead_on.reached ws s.frozen U.work U.reached c in
-        record { work = called c U.work; shown = next; reached = reached_by ws s.frozen t.frozen (called c U.work) (sym (frozen_as ws s.frozen (called c U.work) R) ∙ ap (λ W. W.frozen) (sym next.is)) R }
+        record { work = called c U.work; shown = next; reached = reached_by ws s.frozen t.frozen (called c U.work) (sym (nodes_as ws s.frozen (called c U.work) R).1 ∙ ap (λ W. W.frozen) (sym next.is)) R }
 
     step : Sound (taken_in ws) U.work.store.room U.work (called c U.work)
     step = let q = reached_sound ws s.frozen U.work U.reached in
@@ -230,6 +237,9 @@ module _ {S : Type 0} (meaning : S → Meaning) (ws : List ℕ) (s t : Simplifie
 -- ## What is so of all that is underway
 
 module _ {S : Type 0} (meaning : S → Meaning) (ws : List ℕ) (s : Simplifier S) (h : ∥ Underway meaning ws s ∥₁) where
+  pub top_is : s.top ≡ top ws
+  top_is = ∥∥₁_elim h (≡_prop coded_ℕ _ _) (λ U. ap (λ W. W.top) U.shown.is ∙ (nodes_as ws s.frozen U.work U.reached).0)
+
   pub all_gone : AllGone meaning s
   all_gone v e = record {
     thawed = ∥∥₁_elim h (≡_prop coded_bool _ _) (λ U. (gone_of meaning ws s U v e).thawed);

@@ -1,5 +1,5 @@
 -- What the calls of a work promise, in the words of the subject. Assumes nothing.
-use Rattle.std.specs.Prelude.{◌≡◌, ℕ, ◌≤◌, Bool, true, false, ◌↔◌, List, []}
+use Rattle.std.specs.Prelude.{◌≡◌, ℕ, Bool, true, false, ◌↔◌, List, []}
 use Rattle.network.specs.Lists.{In}
 use Rattle.network.specs.Networks.{Free}
 use Rattle.rules.specs.Store.{Meaning}

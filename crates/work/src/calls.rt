@@ -1,9 +1,9 @@
+ghost use Rattle.handing_out.specs.Outcome.{counted};
 ghost use Rattle.rules.specs.Calls.{bve_answer, const_answer, finalize_answer, simplify_answer, subsume_answer};
 ghost use Rattle.rules.specs.Store.{live_clauses};
 ghost use Rattle.std.specs.Prelude.{◌≡◌, ◌≤◌, ◌⊎◌, length, take, IfErr, IfOk, OnErr};
 ghost use Rattle.work.specs.Promises.{AllGone, Faithful, Keeps, SmallTurns};
-ghost use Rattle.work.specs.Shown.{Leads, Shows, Writes};
-ghost use Rattle.handing_out.specs.Outcome.{counted};
+ghost use Rattle.work.specs.Shown.{Leads, OfEachShown, Writes};
 
 use crate::state::Work;
 use image::fault::Fault;
@@ -28,7 +28,7 @@ impl<S: Store> Work<'_, S> {
         ensures image { self.new.image ≡ self.old.image }
         ensures keeps { Keeps S.meaning self.old.simplifier self.new.simplifier }
         ensures gone { AllGone S.meaning self.new.simplifier }
-        ensures turns { (W : _) → Shows S.meaning self.old.simplifier W → SmallTurns W }
+        ensures turns { OfEachShown S.meaning self.old.simplifier SmallTurns }
         ensures fewer { live_clauses (S.meaning self.new.simplifier.store) ≤ live_clauses (S.meaning self.old.simplifier.store) }
         ensures refused { OnErr result ((self.new.simplifier ≡ self.old.simplifier) × (words.new ≡ words.old)) }
     {
@@ -49,7 +49,7 @@ impl<S: Store> Work<'_, S> {
     // Writes the image of the network to the front of `out`. The answer is how many words it has. Refused with 14 where `out` has fewer;
     // then it is as it was.
     pub fn finalize(&self, out: &mut [u32]) -> Result<u32, Fault>
-        ensures answer { (W : _) → Shows S.meaning self.now.simplifier W → result ≡ counted (finalize_answer (length out.old) W) }
+        ensures answer { OfEachShown S.meaning self.now.simplifier (λ W. result ≡ counted (finalize_answer (length out.old) W)) }
         ensures words { Writes S.meaning (finalize_answer (length out.old)) self.now.simplifier out.old out.new }
         ensures faithful { IfOk result (λ n. Faithful S.meaning self.now.simplifier self.now.image.now (take n out.new)) }
         ensures refused { IfErr result (λ f. (f.number ≡ 14) × (out.new ≡ out.old)) }
@@ -66,7 +66,7 @@ impl<S: Store> Work<'_, S> {
         ensures image { self.new.image ≡ self.old.image }
         ensures keeps { Keeps S.meaning self.old.simplifier self.new.simplifier }
         ensures gone { AllGone S.meaning self.new.simplifier }
-        ensures turns { (W : _) → Shows S.meaning self.old.simplifier W → SmallTurns (const_answer (length words.old) W).0 }
+        ensures turns { OfEachShown S.meaning self.old.simplifier (λ W. SmallTurns (const_answer (length words.old) W).0) }
         ensures faithful { IfOk result (λ n. Faithful S.meaning self.new.simplifier self.new.image.now (take n out.new)) }
         ensures refused { IfErr result (λ f. (out.new ≡ out.old) × ((f.number ≡ 14) ⊎ ((self.new.simplifier ≡ self.old.simplifier) × (words.new ≡ words.old)))) }
     {

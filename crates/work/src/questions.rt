@@ -1,4 +1,5 @@
 ghost use Rattle.clause.specs.Types.{told, values_of};
+ghost use Rattle.image.specs.Headers.{top as top_of};
 ghost use Rattle.rules.specs.Store.{live_clauses};
 ghost use Rattle.std.specs.Prelude.{◌≡◌, ◌≤◌, true, slice_index_or, false};
 ghost use Rattle.work.specs.Promises.{Gone};
@@ -8,9 +9,10 @@ use clause::Lbool;
 use store::store::Store;
 
 impl<S: Store> Work<'_, S> {
-    // The highest node.
+    // The highest node, which is that of the image taken in.
     pub fn top(&self) -> u32
         ensures answer { result ≡ self.now.simplifier.top }
+        ensures image { result ≡ top_of self.now.image.now }
         ensures small { result ≤ 1023 }
     {
         self.simplifier.top

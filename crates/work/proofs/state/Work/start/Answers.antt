@@ -1,37 +1,38 @@
-use Rattle.std.proofs.Common.{sym, refl, ap, ◌∙◌, subst}
+use Rattle.std.proofs.Common.{◌≡◌, Ok, sym, refl, ◌∙◌, subst}
+use Rattle.rules.specs.Calls.{start, started}
 use Rattle.work.specs.Shown.{Underway}
-use Rattle.work.proofs.Reaching.{start_is, shown_started, underway_started, half_free}
+use Rattle.work.proofs.Reaching.{start_is, each_frozen, none_marked, shown_started, underway_started, half_free}
+use Rattle.work.proofs.state.Work.start.Given.{Over}
 use Rattle.work.proofs.state.Work.start.Goals as goal
+use Rattle.work.proofs.state.Work.start.Goals.{After-begin-simplifier}
+
+-- the rules start what was started
+granted : (g : Over) (c : After-begin-simplifier g)
+    → start c.args.intake.image.now c.args.intake.frozen (g.S.Lists.meaning c.args.store) ≡ Ok (started c.args.intake.image.now c.args.intake.frozen (g.S.Lists.meaning c.args.store))
+granted g c = start_is c.args.intake.image.now c.args.intake.frozen (g.S.Lists.meaning c.args.store) c.in_default.field-0 (sym c.in_default.is ∙ c.refusal.ensures)
 
 pub invariant_of-result : goal.invariant_of-result
 invariant_of-result g c =
-    let meaning = g.S.Lists.meaning in
-    let i = c.args.intake in
-    let M = meaning c.args.store in
-    let s = c.begin-simplifier.result in
-    let e = start_is i.image.now i.frozen M c.in_default.field-0 (sym c.in_default.is ∙ c.refusal.ensures) in
-    let U = underway_started meaning i.image.now i.frozen M s c.begin-simplifier.ensures.started c.begin-simplifier.ensures.none_out i.right i.zero e in
-    record { reached = ∣ subst (λ r. Underway meaning r.now s) (sym c.image.ensures) U ∣₁ }
+    let U = underway_started _ _ _ _ _ c.begin-simplifier.ensures.started c.begin-simplifier.ensures.none_out c.args.intake.right c.args.intake.zero (granted g (goal.at.invariant_of-result g c).After-begin-simplifier) in
+    record { reached = ∣ subst (λ r. Underway g.S.Lists.meaning r.now c.begin-simplifier.result) (sym c.image.ensures) U ∣₁ }
 
 pub returns-clause-answer : goal.returns-clause-answer
-returns-clause-answer g c =
-    let i = c.args.intake in
-    let M = g.S.Lists.meaning c.args.store in
-    rw (start_is i.image.now i.frozen M c.in_default.field-0 (sym c.in_default.is ∙ c.refusal.ensures)) refl
+returns-clause-answer g c = rw (granted g (goal.at.returns-clause-answer g c).After-begin-simplifier) refl
 
 pub returns-clause-work : goal.returns-clause-work
 returns-clause-work g c =
-    let meaning = g.S.Lists.meaning in
-    let i = c.args.intake in
-    let M = meaning c.args.store in
-    let s = c.begin-simplifier.result in
-    let e = start_is i.image.now i.frozen M c.in_default.field-0 (sym c.in_default.is ∙ c.refusal.ensures) in
-    rw e (shown_started meaning i.image.now i.frozen M s c.begin-simplifier.ensures.started c.begin-simplifier.ensures.none_out)
+    rw (granted g (goal.at.returns-clause-work g c).After-begin-simplifier)
+    (shown_started g.S.Lists.meaning _ _ _ c.begin-simplifier.result c.begin-simplifier.ensures.started c.begin-simplifier.ensures.none_out)
+
+pub returns-clause-frozen : goal.returns-clause-frozen
+returns-clause-frozen g c =
+    each_frozen g.S.Lists.meaning _ _ _ c.begin-simplifier.result c.begin-simplifier.ensures.started c.begin-simplifier.ensures.none_out c.args.intake.right c.args.intake.zero
+    (granted g (goal.at.returns-clause-frozen g c).After-begin-simplifier)
+
+pub returns-clause-none_out : goal.returns-clause-none_out
+returns-clause-none_out g c = none_marked g.S.Lists.meaning _ _ _ c.begin-simplifier.result c.begin-simplifier.ensures.started c.begin-simplifier.ensures.none_out
 
 pub returns-clause-half_free : goal.returns-clause-half_free
 returns-clause-half_free g c =
-    let meaning = g.S.Lists.meaning in
-    let i = c.args.intake in
-    let M = meaning c.args.store in
-    let e = start_is i.image.now i.frozen M c.in_default.field-0 (sym c.in_default.is ∙ c.refusal.ensures) in
-    half_free meaning i.image.now i.frozen M c.begin-simplifier.result c.begin-simplifier.ensures.started c.begin-simplifier.ensures.none_out i.right i.zero e
+    half_free g.S.Lists.meaning _ _ _ c.begin-simplifier.result c.begin-simplifier.ensures.started c.begin-simplifier.ensures.none_out c.args.intake.right c.args.intake.zero
+    (granted g (goal.at.returns-clause-half_free g c).After-begin-simplifier)
