@@ -6,9 +6,9 @@
 // `input` (the intake of an image), `scanned` and `indexed` (the stores) and `work` (the calls).
 #![tactic(auto)]
 
-ghost use Rattle.ffi.specs.Simplified.{Numbered, Settled, number_told, place_told, simplified};
+ghost use Rattle.ffi.specs.Simplified.{Numbered, Settled, number_told, place_told, prepared, simplified};
 ghost use Rattle.handing_out.specs.Outcome.{left_in};
-ghost use Rattle.std.specs.Prelude.{◌≡◌, length};
+ghost use Rattle.std.specs.Prelude.{◌≡◌, ◌⊎◌, length, IfErr};
 
 pub mod simplify;
 
@@ -16,8 +16,9 @@ use crate::simplify::simplify_words;
 
 // Simplifies the image of a network, with nodes of it frozen, over a store, indexed or scanned, with room for so many clauses, and
 // writes the image handed out to the front of `out`. The answer is 0, and `told` the number of words written; or the answer is the
-// number of a refusal in the table of docs/RULES.md, `told` its place, and `out` as it was. The caller has to lend slices that are valid
-// and apart from each other; their words may be any.
+// number of a refusal in the table of docs/RULES.md, and `told` its place. Then `out` is as it was, the working words too unless the
+// refusal is 14, and the words of the store unless it was made. The caller has to lend slices that are valid and apart from each other;
+// their words may be any.
 #[unsafe(no_mangle)]
 #[tactic(auto, using(crate::proofs::Numbers::numbered, crate::proofs::Settings::settled))]
 pub extern "C" fn dilkaums_simplify(
@@ -33,6 +34,8 @@ pub extern "C" fn dilkaums_simplify(
     ensures number { result ≡ number_told (simplified indexed image.now frozen.now room (length store.old) (length working.old) (length out.old)) }
     ensures place { told.new ≡ place_told (simplified indexed image.now frozen.now room (length store.old) (length working.old) (length out.old)) }
     ensures out { out.new ≡ left_in out.old (simplified indexed image.now frozen.now room (length store.old) (length working.old) (length out.old)) }
+    ensures working { (result ≡ 0) ⊎ ((result ≡ 14) ⊎ (working.new ≡ working.old)) }
+    ensures store { IfErr (prepared indexed image.now frozen.now room (length store.old)) (λ f. store.new ≡ store.old) }
     ensures settings { Settled image.now frozen.now (simplified indexed image.now frozen.now room (length store.old) (length working.old) (length out.old)) }
     ensures refused { Numbered (simplified indexed image.now frozen.now room (length store.old) (length working.old) (length out.old)) }
 {
