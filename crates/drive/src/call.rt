@@ -2,29 +2,38 @@
 use anyhow::bail;
 use std::fmt;
 
-// A call on a work. Those that write an image may name how many words they are lent for it.
+// A call on a work, with what it may say of the words that it is lent: a pass how many working words, and those that write an image how
+// many words for it. `simplify` may say both, the image's first.
 #[derive(Clone, Copy)]
 pub enum Call {
-    Const,
-    Bve,
-    Subsume,
+    Const(Option<usize>),
+    Bve(Option<usize>),
+    Subsume(Option<usize>),
     Finalize(Option<usize>),
-    Simplify(Option<usize>),
+    Simplify(Option<usize>, Option<usize>),
+}
+
+// A number of words, if one is said.
+fn words_of(said: Option<&str>) -> anyhow::Result<Option<usize>> {
+    match said {
+        Some(words) => Ok(Some(words.parse::<usize>()?)),
+        None => Ok(None),
+    }
 }
 
 impl Call {
-    // The call of a word, as `bve` or `finalize:20`.
+    // The call of a word, as `bve`, `bve:16384` or `simplify:20:16384`.
     pub fn read(word: &str) -> anyhow::Result<Call> {
-        let (name, words) = match word.split_once(':') {
-            Some((name, words)) => (name, Some(words.parse::<usize>()?)),
-            None => (word, None),
-        };
+        let mut parts = word.split(':');
+        let name = parts.next().unwrap_or("");
+        let first = words_of(parts.next())?;
+        let second = words_of(parts.next())?;
         match name {
-            "const" => Ok(Call::Const),
-            "bve" => Ok(Call::Bve),
-            "subsume" => Ok(Call::Subsume),
-            "finalize" => Ok(Call::Finalize(words)),
-            "simplify" => Ok(Call::Simplify(words)),
+            "const" => Ok(Call::Const(first)),
+            "bve" => Ok(Call::Bve(first)),
+            "subsume" => Ok(Call::Subsume(first)),
+            "finalize" => Ok(Call::Finalize(first)),
+            "simplify" => Ok(Call::Simplify(first, second)),
             _ => bail!("no call has the name {name}"),
         }
     }
@@ -32,19 +41,28 @@ impl Call {
     // Its name.
     fn name(self) -> &'static str {
         match self {
-            Call::Const => "const",
-            Call::Bve => "bve",
-            Call::Subsume => "subsume",
+            Call::Const(_) => "const",
+            Call::Bve(_) => "bve",
+            Call::Subsume(_) => "subsume",
             Call::Finalize(_) => "finalize",
-            Call::Simplify(_) => "simplify",
+            Call::Simplify(..) => "simplify",
         }
     }
 
     // How many words it is lent for the image, if it says so.
     pub fn lent(self) -> Option<usize> {
         match self {
-            Call::Finalize(words) | Call::Simplify(words) => words,
-            Call::Const | Call::Bve | Call::Subsume => None,
+            Call::Finalize(words) | Call::Simplify(words, _) => words,
+            Call::Const(_) | Call::Bve(_) | Call::Subsume(_) => None,
+        }
+    }
+
+    // How many working words it is lent, if it says so.
+    pub fn working(self) -> Option<usize> {
+        match self {
+            Call::Const(words) | Call::Bve(words) | Call::Subsume(words) => words,
+            Call::Simplify(_, words) => words,
+            Call::Finalize(_) => None,
         }
     }
 }
@@ -52,10 +70,13 @@ impl Call {
 // The word that it was read from.
 impl fmt::Display for Call {
     fn fmt<W: fmt::Write>(&self, f: &mut fmt::Formatter<W>) -> fmt::Result {
-        let name = self.name();
-        match self.lent() {
-            Some(words) => write!(f, "{name}:{words}"),
-            None => write!(f, "{name}"),
+        write!(f, "{}", self.name())?;
+        if let Some(words) = self.lent() {
+            write!(f, ":{words}")?;
         }
+        if let Some(words) = self.working() {
+            write!(f, ":{words}")?;
+        }
+        Ok(())
     }
 }

@@ -128,7 +128,7 @@ fn simplify<S: Store>(
     tell_spilled(answer, out, text)
 }
 
-// Makes a call, which is lent just the working words that it needs, and tells its answer.
+// Makes a call, which is lent just the working words that it needs if it says nothing else, and tells its answer.
 fn make<S: Store>(
     work: &mut Work<'_, S>,
     call: Call,
@@ -136,15 +136,16 @@ fn make<S: Store>(
     text: &mut String,
 ) -> Result<(), AllocError> {
     let Lent { working, out } = lent;
-    let working = first(working.as_mut_slice(), working_words(work.room()));
+    let needed = working_words(work.room());
+    let working = first(working.as_mut_slice(), call.working().unwrap_or(needed));
     let enough = image_words(work.top(), work.room());
     let out = blank(out.as_mut_slice(), call.lent().unwrap_or(enough));
     match call {
-        Call::Const => tell_live(work.const_simplify(working), text),
-        Call::Bve => eliminate(work, working, text),
-        Call::Subsume => tell_live(work.subsume_simplify(working), text),
+        Call::Const(_) => tell_live(work.const_simplify(working), text),
+        Call::Bve(_) => eliminate(work, working, text),
+        Call::Subsume(_) => tell_live(work.subsume_simplify(working), text),
         Call::Finalize(_) => hand_out(work, out, text),
-        Call::Simplify(_) => simplify(work, working, out, text),
+        Call::Simplify(..) => simplify(work, working, out, text),
     }
 }
 
