@@ -39,18 +39,18 @@ pub fn ordered_subsume_execpt_one(a: &[u32], b: &[u32]) -> (bool, Option<Lit>)
     let mut noted: Option<Lit> = None;
     let mut rest = a;
     for word in b {
-        let [first, after_first @ ..] = rest else {
+        let [first, ..] = rest else {
             break;
         };
         let (c, d) = (Lit::from(*first), Lit::from(*word));
         if c == d {
-            rest = after_first;
+            rest = &rest[1..];
         } else if c.var() == d.var() {
             if noted.is_some() {
                 return (false, None);
             }
             noted = Some(c);
-            rest = after_first;
+            rest = &rest[1..];
         } else if c.word < d.word {
             return (false, None);
         }
