@@ -112,6 +112,11 @@ pub merge_nothing : (y : ℕ) (D : List ℕ) → merge [] (without y D) ≡ with
 unfolding merge
 merge_nothing y D = refl
 
+-- nothing is left to merge in
+pub merge_alone : (y : ℕ) (C D : List ℕ) → length D ≤ 0 → merge C (without y D) ≡ C
+merge_alone y C [] h = merge_right C
+merge_alone y C (d ∷ D) h = absurd (omega arith)
+
 -- the words D but for y are merged into the literal c and the literals C
 module _ (y c : ℕ) (C : List ℕ) where
   pub take_right : (D : List ℕ) → 0 < length D → (get_or D 0 0 ≡ y → ⊥) → get_or D 0 0 < c → merge (c ∷ C) (without y D) ≡ get_or D 0 0 ∷ merge (c ∷ C) (without y (behind D))
