@@ -36,7 +36,7 @@ shortened_room : (l i x : ℕ) (M : Meaning) → (shortened l i x M).room ≡ M.
 unfolding shortened
 shortened_room l i x M = refl
 
-enter_keeps : (C : List ℕ) (M : Meaning) → Keeps M (enter C M).0
+pub enter_keeps : (C : List ℕ) (M : Meaning) → Keeps M (enter C M).0
 unfolding enter
 enter_keeps C M = allowed_along Keeps keeps_chains (enterable M C) M (entered C M) (λ e L. (entered_lawful C M L e, entered_room C M))
 
@@ -77,7 +77,7 @@ changes_lawful = record {
 abbrev pub KeepsWork : Work → Work → Type 0
 KeepsWork W N = Keeps W.store N.store
 
-add_keeps : (C : List ℕ) (W : Work) → KeepsWork W (add C W)
+pub add_keeps : (C : List ℕ) (W : Work) → KeepsWork W (add C W)
 add_keeps C W = entry_cases C W (KeepsWork W) (keeps_chains.same W.store) (λ S e. enter_keeps S W.store)
 
 keeps_work : Chains KeepsWork
