@@ -17,7 +17,7 @@ use Rattle.rules.proofs.Lawful.{own_small, entered_lawful, removed_lawful, retir
 abbrev pub Keeps : Meaning → Meaning → Type 0
 Keeps M N = Lawful M → Lawful N × (N.room ≡ M.room)
 
-keeps_chains : Chains Keeps
+pub keeps_chains : Chains Keeps
 keeps_chains = record { same = λ M L. (L, refl); next = λ M N R f g L. let (a, b) = f L in let (c, d) = g a in (c, d ∙ b) }
 
 entered_room : (C : List ℕ) (M : Meaning) → (entered C M).room ≡ M.room
@@ -83,7 +83,7 @@ add_keeps C W = entry_cases C W (KeepsWork W) (keeps_chains.same W.store) (λ S 
 keeps_work : Chains KeepsWork
 keeps_work = record { same = λ W. keeps_chains.same W.store; next = λ W N R. keeps_chains.next W.store N.store R.store }
 
-keeps_steps : Steps KeepsWork
+pub keeps_steps : Steps KeepsWork
 keeps_steps = record { chains = keeps_work; enters = add_keeps; removes = λ l i W. removed_keeps l i W.store; takes = λ n W. keeps_chains.same W.store }
 
 pub adds_keep : (Cs : List (List ℕ)) (W : Work) → KeepsWork W (each add Cs W)
