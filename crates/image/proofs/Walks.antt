@@ -9,7 +9,7 @@ use Rattle.image.specs.Faults.{fault}
 use Rattle.image.specs.declared.fault.Fault.{Fault}
 use Rattle.image.specs.declared.reader.Clauses.{Clauses}
 use Rattle.image.specs.declared.reader.FittingClauses.{FittingClauses}
-use Rattle.image.specs.Runs.{Fits, Front, Reads, left_of, length_fits, front_cut, whole_by, whole, clauses_by, clauses}
+use Rattle.image.specs.Runs.{ReadsFitting, Front, Reads, left_of, length_fits, front_cut, whole_by, whole, clauses_by, clauses}
 
 -- more looks than words change nothing
 whole_fuel : (f g : ℕ) (ws : List ℕ) → length ws ≤ f → length ws ≤ g → whole_by f ws ≡ whole_by g ws
@@ -82,7 +82,7 @@ module _ (s t : Clauses) (r : Option (Result (Bor (List ℕ)) Fault)) (h : Reads
   reads_none e = let k = rw e at h.1 in k.0
 
 -- what a step of a walk without faults gave
-module _ (s t : FittingClauses) (r : Option (Bor (List ℕ))) (h : Fits s r t) where
+module _ (s t : FittingClauses) (r : Option (Bor (List ℕ))) (h : ReadsFitting s r t) where
   pub fits_clause : (c : Bor (List ℕ)) → r ≡ Some c → Front s.left.now c.now t.left.now
   fits_clause c e = let k = rw e at h in k
 

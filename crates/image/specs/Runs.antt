@@ -57,8 +57,8 @@ Reads s r t =
     × MatchOption r ((left_of s ≡ []) × (left_of t ≡ [])) (λ x. MatchResult x (λ c. Front (left_of s) c.now (left_of t)) (λ f. (f ≡ fault 2 s.left.node) × (front_cut (left_of s) ≡ true) × (left_of t ≡ [])))
 
 -- one step of a walk without faults from s to t: the first clause of what is left, or none where nothing is left or it is cut, and that stays
-abbrev pub Fits : FittingClauses → Option (Bor (List ℕ)) → FittingClauses → Type 0
-Fits s r t =
+abbrev pub ReadsFitting : FittingClauses → Option (Bor (List ℕ)) → FittingClauses → Type 0
+ReadsFitting s r t =
     MatchOption r ((t.left.now ≡ s.left.now) × ((s.left.now ≡ []) ⊎ (front_cut s.left.now ≡ true))) (λ c. Front s.left.now c.now t.left.now)
 
 -- each of the clauses, so many at most, passes the test p

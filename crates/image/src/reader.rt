@@ -1,5 +1,5 @@
 ghost use Rattle.image.specs.Faults.{fault};
-ghost use Rattle.image.specs.Runs.{Fits, Reads, clauses, left_of, whole};
+ghost use Rattle.image.specs.Runs.{ReadsFitting, Reads, clauses, left_of, whole};
 ghost use Rattle.std.specs.Prelude.{◌≡◌, length, if◌then◌else◌, Ok, Err};
 
 use crate::fault::{Fault, Refusal};
@@ -19,7 +19,7 @@ impl<'i> Run<'i> {
         Clauses { left: self }
     }
 
-    // The clauses up to the first length that is 0 or passes the end, with no fault in between.
+    // The clauses up to the first length that is 0 or passes the end; `left` tells afterwards whether there is one.
     pub fn fitting_clauses(self) -> FittingClauses<'i>
         ensures { result.left ≡ self.entry.words }
     {
@@ -72,7 +72,7 @@ impl<'i> Iterator for Clauses<'i> {
     }
 }
 
-// A walk over the clauses of a run that gives no fault; `left` is what follows the last one given. It ends where nothing is left, and at a length that is 0 or passes the end, which is then left. In a loop it costs less than `Clauses`, whose items hold a fault or a slice.
+// A walk over the clauses of a run that gives no fault; `left` is what follows the last one given. It ends where nothing is left, and at a length that is 0 or passes the end, which then stays in `left`: a loop that asks for it afterwards is a `while let`. Its items, which are slices alone, cost less than those of `Clauses`.
 #[derive(Drop)]
 pub struct FittingClauses<'i> {
     pub left: &'i [u32],
@@ -83,7 +83,7 @@ impl<'i> Iterator for FittingClauses<'i> {
 
     type Item = &'i [u32];
 
-    ghost next_gives = { Fits };
+    ghost next_gives = { ReadsFitting };
 
     ghost remaining = { λ s. at_most (length s.left.now) };
 
