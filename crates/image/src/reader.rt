@@ -42,7 +42,8 @@ impl<'i> Run<'i> {
     }
 }
 
-// A walk over the clauses of a run; `left` is what follows the last one given. At a length that is 0 or passes the end it gives the fault, and then nothing.
+// A walk over the clauses of a run; `left` is what follows the last one given. At a length that is 0 or passes the end it gives the fault,
+// and then nothing.
 #[derive(Drop)]
 pub struct Clauses<'i> {
     pub left: Run<'i>,
@@ -72,7 +73,9 @@ impl<'i> Iterator for Clauses<'i> {
     }
 }
 
-// A walk over the clauses of a run that gives no fault; `left` is what follows the last one given. It ends where nothing is left, and at a length that is 0 or passes the end, which then stays in `left`: a loop that asks for it afterwards is a `while let`. Its items, which are slices alone, cost less than those of `Clauses`.
+// A walk over the clauses of a run that gives no fault; `left` is what follows the last one given. It ends where nothing is left, and at a
+// length that is 0 or passes the end, which then stays in `left`: a loop that asks for it afterwards is a `while let`. Its items are slices
+// alone. Those of `Clauses`, a slice or a fault, pass through memory at each step, which took up to twice the time where they are many.
 #[derive(Drop)]
 pub struct FittingClauses<'i> {
     pub left: &'i [u32],
