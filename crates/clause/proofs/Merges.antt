@@ -56,11 +56,11 @@ pub after_none : (p : Option ℕ) → after p [] ≡ Some []
 after_none None = refl
 after_none (Some p) = refl
 
-after_kept : (p : Option ℕ) (l : ℕ) (R : List ℕ) → (p ≡ Some (node l) → ⊥) → after p (l ∷ R) ≡ before (l ∷ []) (after (Some (node l)) R)
+pub after_kept : (p : Option ℕ) (l : ℕ) (R : List ℕ) → (p ≡ Some (node l) → ⊥) → after p (l ∷ R) ≡ before (l ∷ []) (after (Some (node l)) R)
 after_kept None l R n = once_first l R
 after_kept (Some p) l R n = cond-false _ _ _ (ne_eqb (node l) p (λ e. n (ap Some (sym e))))
 
-after_twice : (p : Option ℕ) (l : ℕ) (R : List ℕ) → p ≡ Some (node l) → after p (l ∷ R) ≡ None
+pub after_twice : (p : Option ℕ) (l : ℕ) (R : List ℕ) → p ≡ Some (node l) → after p (l ∷ R) ≡ None
 after_twice p l R e = ap (λ q. after q (l ∷ R)) e ∙ cond-true _ _ _ (eq-eqb (node l) (node l) refl)
 
 -- ---- a resolvent as far as it is written
@@ -111,6 +111,11 @@ merge_right (c ∷ C) = refl
 pub merge_nothing : (y : ℕ) (D : List ℕ) → merge [] (without y D) ≡ without y D
 unfolding merge
 merge_nothing y D = refl
+
+-- nothing is left to merge in
+pub merge_alone : (y : ℕ) (C D : List ℕ) → length D ≤ 0 → merge C (without y D) ≡ C
+merge_alone y C [] h = merge_right C
+merge_alone y C (d ∷ D) h = absurd (omega arith)
 
 -- the words D but for y are merged into the literal c and the literals C
 module _ (y c : ℕ) (C : List ℕ) where

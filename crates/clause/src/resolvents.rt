@@ -58,7 +58,11 @@ pub fn ordered_resolvent(a: &[u32], b: &[u32], pivot: Lit, out: &mut [u32]) -> O
     let (x, y) = (pivot.word, pivot.opposite().word);
     let mut merged = Merged { out, len: 0 };
     let mut rest = b;
-    for c in a {
+    for (k, c) in a.iter().enumerate() {
+        // Nothing is left to merge with: the rest of `a` goes on as it is, with no look at `b` for each literal.
+        if rest.is_empty() {
+            return merged.finish(&a[k..], x);
+        }
         if *c == x {
             continue;
         }

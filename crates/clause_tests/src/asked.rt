@@ -1,7 +1,6 @@
 // The answers of `clause` beside the recorded ones.
 use crate::table::{Row, numbers, read_row};
-use clause::{Lbool, Signature};
-use std::alloc::{AllocError, Global};
+use clause::{Lbool, Lit, Signature};
 
 // The words lent for a clause here, and the nodes with a value.
 const MOST: usize = 32;
@@ -37,6 +36,26 @@ fn value(recorded: u32) -> Lbool {
     u8::try_from(recorded).map_or(Lbool::Unknown, Lbool::from)
 }
 
+// The recorded values, by node.
+fn values_of(row: &Row) -> [Lbool; MOST] {
+    let mut values = [Lbool::Unknown; MOST];
+    for (known, recorded) in values.iter_mut().zip(row.values) {
+        *known = value(*recorded);
+    }
+    values
+}
+
+// Drops a literal from a clause, copied to the front of `out`, and says how many are left: none where `out` is shorter.
+fn dropped(clause: &[u32], lost: Lit, out: &mut [u32]) -> usize {
+    match out.get_mut(..clause.len()) {
+        Some(out) => {
+            out.copy_from_slice(clause);
+            clause::drop_literal(out, lost)
+        }
+        None => 0,
+    }
+}
+
 impl Counts {
     // Notes an answer that is not the recorded one.
     fn note(&mut self, agrees: bool, what: &'static str) {
@@ -54,14 +73,13 @@ impl Counts {
         self.note(part == row.part, "ordered_subsume");
         let but_one = clause::ordered_subsume_execpt_one(row.a, row.b);
         self.odd = self.odd.wrapping_add(u32::from(but_one.1.is_some()));
-        self.note(but_one == row.but_one, "ordered_subsume_execpt_one");
+        self.note(Some(but_one) == row.but_one, "ordered_subsume_execpt_one");
     }
 
-    fn ask_simplification(&mut self, alloc: Global, row: &Row) -> Result<(), AllocError> {
-        let mut values: Vec<Lbool> = row.values.iter().map(|v| value(*v)).collect(alloc)?;
-        values.resize(MOST, Lbool::Unknown)?;
-        let mut out = vec![in alloc; 0u32; MOST]?;
-        let n = clause::ordered_simp(row.a, values.as_slice(), out.as_mut_slice());
+    fn ask_simplification(&mut self, row: &Row) {
+        let values = values_of(row);
+        let mut out = [0u32; MOST];
+        let n = clause::ordered_simp(row.a, &values, &mut out);
         match n {
             Some(n) => {
                 self.simplified = self.simplified.wrapping_add(1);
@@ -69,42 +87,33 @@ impl Counts {
             }
             None => self.gone = self.gone.wrapping_add(1),
         }
-        self.note(agrees(n, out.as_slice(), row.simplified), "ordered_simp");
-        Ok(())
+        self.note(agrees(n, &out, row.simplified), "ordered_simp");
     }
 
-    fn ask_resolvent(&mut self, alloc: Global, row: &Row) -> Result<(), AllocError> {
+    fn ask_resolvent(&mut self, row: &Row) {
         let Some(pivot) = row.pivot else {
-            return Ok(());
+            return;
         };
-        let mut out = vec![in alloc; 0u32; 2 * MOST]?;
-        let n = clause::ordered_resolvent(row.a, row.b, pivot, out.as_mut_slice());
+        let mut out = [0u32; 2 * MOST];
+        let n = clause::ordered_resolvent(row.a, row.b, pivot, &mut out);
         self.resolved = self.resolved.wrapping_add(1);
         self.tautologies = self.tautologies.wrapping_add(u32::from(n.is_none()));
-        self.note(
-            agrees(n, out.as_slice(), row.resolvent),
-            "ordered_resolvent",
-        );
-        Ok(())
+        self.note(agrees(n, &out, row.resolvent), "ordered_resolvent");
     }
 
-    fn ask_loss(&mut self, alloc: Global, row: &Row) -> Result<(), AllocError> {
+    fn ask_loss(&mut self, row: &Row) {
         let Some(lost) = row.lost else {
-            return Ok(());
+            return;
         };
-        let mut out = row.a.to_vec(alloc)?;
-        let n = clause::drop_literal(out.as_mut_slice(), lost);
-        self.note(
-            agrees(Some(n), out.as_slice(), Some(row.rest)),
-            "drop_literal",
-        );
-        Ok(())
+        let mut out = [0u32; MOST];
+        let n = dropped(row.a, lost, &mut out);
+        self.note(agrees(Some(n), &out, Some(row.rest)), "drop_literal");
     }
 
     fn ask_signatures(&mut self, row: &Row) {
         let a = Signature::of(row.a);
         let b = Signature::of(row.b);
-        self.note((a, b) == row.signatures, "signature");
+        self.note(Some((a, b)) == row.signatures, "signature");
         self.note(a.may_subsume(b) == row.may_subsume, "may_subsume");
         let fits = a.may_fit(b);
         self.spared = self.spared.wrapping_add(u32::from(!fits));
@@ -112,27 +121,22 @@ impl Counts {
     }
 
     // Asks for each answer to a pair.
-    fn ask(&mut self, alloc: Global, row: &Row) -> Result<(), AllocError> {
+    fn ask(&mut self, row: &Row) {
         self.ask_subsumption(row);
-        self.ask_simplification(alloc, row)?;
-        self.ask_resolvent(alloc, row)?;
-        self.ask_loss(alloc, row)?;
+        self.ask_simplification(row);
+        self.ask_resolvent(row);
+        self.ask_loss(row);
         self.ask_signatures(row);
-        Ok(())
     }
 
     // Asks what a line of the table asks.
-    pub fn ask_line(&mut self, alloc: Global, line: &str) -> Result<(), AllocError> {
-        let words = numbers(alloc, line)?;
-        let row = match &words {
-            Some(words) => read_row(words.as_slice()),
-            None => Err("a row with a word that is no number"),
-        };
-        match row {
-            Ok(row) => self.ask(alloc, &row)?,
+    pub fn ask_line(&mut self, line: &[u8]) {
+        let mut words = [0u32; 8 * MOST];
+        let n = numbers(line, &mut words);
+        match read_row(&words[..n]) {
+            Ok(row) => self.ask(&row),
             Err(flaw) => self.note(false, flaw),
         }
         self.pairs = self.pairs.wrapping_add(1);
-        Ok(())
     }
 }

@@ -14,7 +14,7 @@ fn run(rt: &HostRuntime) -> anyhow::Result<()> {
     let mut counts = Counts::default();
     for line in rt.lines(rt.alloc()) {
         let line = line?;
-        counts.ask_line(rt.alloc(), line.as_str())?;
+        counts.ask_line(line.as_bytes());
     }
     println!(rt; "pairs {}", counts.pairs)?;
     println!(rt;

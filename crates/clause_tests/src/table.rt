@@ -1,6 +1,7 @@
 // The table of recorded answers: a row is a line of numbers, and a list in it is its length and then its words.
+ghost use Rattle.std.specs.Prelude.{◌≤◌, length};
+
 use clause::{Lit, Signature};
-use std::alloc::{AllocError, Global};
 
 // A pair of clauses, and the recorded answers.
 #[derive(Drop)]
@@ -11,30 +12,44 @@ pub struct Row<'a> {
     pub values: &'a [u32],
     // None where no literal of one stands in the other with the opposite sign
     pub pivot: Option<Lit>,
-    // of `ordered_subsume`, and of `ordered_subsume_execpt_one`
+    // of `ordered_subsume`, and of `ordered_subsume_execpt_one`: None where the row has more than one literal for that one
     pub part: bool,
-    pub but_one: (bool, Option<Lit>),
+    pub but_one: Option<(bool, Option<Lit>)>,
     pub simplified: Option<&'a [u32]>,
     pub resolvent: Option<&'a [u32]>,
     // the literal that the first clause loses, and what is left of it
     pub lost: Option<Lit>,
     pub rest: &'a [u32],
-    // of both clauses
-    pub signatures: (Signature, Signature),
+    // of both clauses; None where the row has not their eight words
+    pub signatures: Option<(Signature, Signature)>,
     pub may_subsume: bool,
     pub may_fit: bool,
 }
 
-// The numbers of a line, None where a word of it is none.
-pub fn numbers(alloc: Global, line: &str) -> Result<Option<Vec<u32>>, AllocError> {
-    let mut numbers = Vec::new(alloc);
-    for word in line.split_whitespace() {
-        let Ok(number) = word.parse::<u32>() else {
-            return Ok(None);
-        };
-        numbers.push(number)?;
+// Writes the numbers of a line, which stand apart by what is no digit, as far as there is room, and says how many they are.
+pub fn numbers(line: &[u8], out: &mut [u32]) -> usize
+    ensures { result ≤ length out.old }
+{
+    let mut n = 0;
+    let mut value: u32 = 0;
+    let mut inside = false;
+    for b in line {
+        let digit = u32::from(*b ^ b'0');
+        if digit <= 9 {
+            value = value.wrapping_mul(10).wrapping_add(digit);
+            inside = true;
+        } else if inside && n < out.len() {
+            out[n] = value;
+            n += 1;
+            value = 0;
+            inside = false;
+        }
     }
-    Ok(Some(numbers))
+    if inside && n < out.len() {
+        out[n] = value;
+        n += 1;
+    }
+    n
 }
 
 // The list at the front, and the words after it.
@@ -44,13 +59,9 @@ fn list(words: &[u32]) -> Result<(&[u32], &[u32]), &'static str> {
     rest.split_at_checked(*n as usize).ok_or(short)
 }
 
-// The literal that a list holds, if any.
-fn at_most_one(list: &[u32]) -> Result<Option<Lit>, &'static str> {
-    match list {
-        [] => Ok(None),
-        [word] => Ok(Some(Lit::from(*word))),
-        _ => Err("a row with literals where one is wanted"),
-    }
+// The literal that a list begins with, if any.
+fn first(list: &[u32]) -> Option<Lit> {
+    list.first().map(|word| Lit::from(*word))
 }
 
 // A half of a signature of its two words, the low one first.
@@ -59,9 +70,9 @@ fn half(low: u32, high: u32) -> u64 {
 }
 
 // The signatures of both clauses, of the words of their halves.
-fn signatures(words: &[u32]) -> Result<(Signature, Signature), &'static str> {
+fn signatures(words: &[u32]) -> Option<(Signature, Signature)> {
     let [a0, a1, a2, a3, b0, b1, b2, b3] = words else {
-        return Err("a row without its signatures");
+        return None;
     };
     let a = Signature {
         low: half(*a0, *a1),
@@ -71,7 +82,7 @@ fn signatures(words: &[u32]) -> Result<(Signature, Signature), &'static str> {
         low: half(*b0, *b1),
         high: half(*b2, *b3),
     };
-    Ok((a, b))
+    Some((a, b))
 }
 
 // The row that the numbers are, or what is wrong with it.
@@ -94,14 +105,14 @@ pub fn read_row(words: &[u32]) -> Result<Row<'_>, &'static str> {
         a,
         b,
         values,
-        pivot: at_most_one(pivot)?,
+        pivot: first(pivot),
         part: *part == 1,
-        but_one: (*yes == 1, at_most_one(odd)?),
+        but_one: (odd.len() <= 1).then_some((*yes == 1, first(odd))),
         simplified: (*left == 1).then_some(simplified),
         resolvent: (*resolved == 1).then_some(resolvent),
-        lost: at_most_one(lost)?,
+        lost: first(lost),
         rest,
-        signatures: signatures(signs)?,
+        signatures: signatures(signs),
         may_subsume: *may_subsume == 1,
         may_fit: *may_fit == 1,
     })

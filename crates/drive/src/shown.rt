@@ -74,18 +74,22 @@ fn show_values<S: Store>(work: &Work<'_, S>, text: &mut String) -> Result<(), Al
     writeln!(text, "")
 }
 
-// Adds the lines of a work.
-pub fn show_work<S: Store>(work: &Work<'_, S>, text: &mut String) -> Result<(), AllocError> {
-    let literals = 2 * work.top() + 2;
-    for l in 0..literals {
-        show_own(work.store(), l, text)?;
-    }
-    show_values(work, text)?;
+// Adds the lines of an index, where one stands.
+fn show_index<S: Store>(work: &Work<'_, S>, text: &mut String) -> Result<(), AllocError> {
     if work.store().indexed() {
         writeln!(text, " index")?;
-        for l in 0..literals {
+        for l in 0..2 * work.top() + 2 {
             show_uses(work.store(), l, text)?;
         }
     }
     Ok(())
+}
+
+// Adds the lines of a work.
+pub fn show_work<S: Store>(work: &Work<'_, S>, text: &mut String) -> Result<(), AllocError> {
+    for l in 0..2 * work.top() + 2 {
+        show_own(work.store(), l, text)?;
+    }
+    show_values(work, text)?;
+    show_index(work, text)
 }

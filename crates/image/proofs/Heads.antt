@@ -32,7 +32,7 @@ climbs_at ws (suc m) k c h =
     let p = and_parts (leb (offset ws m) (offset ws (suc m))) (climbs ws m) (sym (climbs_more ws m) ∙ c) in
     grind (arith, leb-true (offset ws m) (offset ws (suc m)) p.0, climbs_at ws m k p.1)
 
-climbs_stop : (ws : List ℕ) (m k : ℕ) → k < m → offset ws (suc k) < offset ws k → climbs ws m ≡ false
+pub climbs_stop : (ws : List ℕ) (m k : ℕ) → k < m → offset ws (suc k) < offset ws k → climbs ws m ≡ false
 climbs_stop ws m k h l = false_from_ne_true (climbs ws m) (λ c. omega (arith, l, climbs_at ws m k c h))
 
 -- the offsets as a slice of the words

@@ -1,13 +1,15 @@
 -- The run of a node, clause by clause. Assumes nothing.
-use Rattle.std.proofs.Common.{◌≡◌, ℕ, zero, suc, ◌+◌, ◌<◌, ◌≤◌, Bool, true, false, cond, ◌&&◌, List, [], ◌∷◌, ◌++◌, length, take, drop, Ok, Err, Some, None, Option, Result, sym, refl, ap, ◌∙◌, arith, length-append, length-drop}
-use Rattle.std.proofs.lemmas.List.{take_at, drop_at}
+use Rattle.std.proofs.Common.{◌≡◌, ◌⊎◌, ℕ, zero, suc, ◌+◌, ◌<◌, ◌≤◌, Bool, true, false, cond, ◌&&◌, List, [], ◌∷◌, ◌++◌, length, take, drop, Ok, Err, Some, None, Option, Result, sym, refl, ap, ◌∙◌, ⊎_elim, arith, length-append, length-drop}
+use Rattle.std.proofs.lemmas.List.{nil_from_length, take_at, drop_at}
 use Rattle.std.proofs.lemmas.Bool.Decides.{nat_tests}
-use Rattle.std.proofs.lemmas.Bool.{cond-true, both_ways, not-true}
+use Rattle.std.proofs.lemmas.Bool.{cond-true, both_ways, eq-eqb, eqb-true, not-true}
+use Rattle.std.specs.Bool.{◌==◌}
 use Rattle.std.specs.Borrow.{Bor}
 use Rattle.image.specs.Faults.{fault}
 use Rattle.image.specs.declared.fault.Fault.{Fault}
 use Rattle.image.specs.declared.reader.Clauses.{Clauses}
-use Rattle.image.specs.Runs.{Front, Reads, left_of, length_fits, front_cut, whole_by, whole, clauses_by, clauses}
+use Rattle.image.specs.declared.reader.FittingClauses.{FittingClauses}
+use Rattle.image.specs.Runs.{ReadsFitting, Front, Reads, left_of, length_fits, front_cut, whole_by, whole, clauses_by, clauses}
 
 -- more looks than words change nothing
 whole_fuel : (f g : ℕ) (ws : List ℕ) → length ws ≤ f → length ws ≤ g → whole_by f ws ≡ whole_by g ws
@@ -78,6 +80,25 @@ module _ (s t : Clauses) (r : Option (Result (Bor (List ℕ)) Fault)) (h : Reads
 
   pub reads_none : r ≡ None → left_of s ≡ []
   reads_none e = let k = rw e at h.1 in k.0
+
+-- what a step of a walk without faults gave
+module _ (s t : FittingClauses) (r : Option (Bor (List ℕ))) (h : ReadsFitting s r t) where
+  pub fits_clause : (c : Bor (List ℕ)) → r ≡ Some c → Front s.left.now c.now t.left.now
+  fits_clause c e = let k = rw e at h in k
+
+  pub fits_end : r ≡ None → (t.left.now ≡ s.left.now) × ((s.left.now ≡ []) ⊎ (front_cut s.left.now ≡ true))
+  fits_end e = let k = rw e at h in k
+
+  -- at the end nothing is left, or a cut
+  pub fits_all : r ≡ None → (length t.left.now == 0) ≡ true → s.left.now ≡ []
+  fits_all e z = sym (fits_end e).0 ∙ nil_from_length t.left.now (eqb-true _ _ z)
+
+  pub fits_cut : r ≡ None → (length t.left.now == 0) ≡ false → front_cut s.left.now ≡ true
+  fits_cut e z = let k = fits_end e in ⊎_elim (λ (n : s.left.now ≡ []). absurd (both_ways _ z (eq-eqb _ _ (ap length (k.0 ∙ n))))) (λ (c : front_cut s.left.now ≡ true). c) k.1
+
+  -- of a run that is not cut, nothing
+  pub fits_whole : r ≡ None → whole s.left.now ≡ true → s.left.now ≡ []
+  fits_whole e w = ⊎_elim (λ (n : s.left.now ≡ []). n) (λ (c : front_cut s.left.now ≡ true). absurd (both_ways _ (cut_whole s.left.now c) w)) (fits_end e).1
 
 -- the steps of a count
 pub count_on : (ws c rest run : List ℕ) (n : ℕ) → Front ws c rest → (whole ws ≡ whole run) × (n + length (clauses ws) ≡ length (clauses run)) × (n + length ws ≤ length run)

@@ -1,9 +1,10 @@
 -- The run of a node: each clause as its length, then that many literals. Assumes nothing.
-use Rattle.std.specs.Prelude.{◌≡◌, ℕ, zero, suc, ◌<◌, Bool, true, false, cond, not, ◌&&◌, List, [], ◌∷◌, ◌++◌, length, take, drop, Ok, Err, Option, Result, MatchOption, MatchResult, nat_le, nat_lt}
+use Rattle.std.specs.Prelude.{◌≡◌, ◌⊎◌, ℕ, zero, suc, ◌<◌, Bool, true, false, cond, not, ◌&&◌, List, [], ◌∷◌, ◌++◌, length, take, drop, Ok, Err, Option, Result, MatchOption, MatchResult, nat_le, nat_lt}
 use Rattle.std.specs.Borrow.{Bor}
 use Rattle.image.specs.Faults.{fault, tested, ◌then◌}
 use Rattle.image.specs.declared.fault.Fault.{Fault}
 use Rattle.image.specs.declared.reader.Clauses.{Clauses}
+use Rattle.image.specs.declared.reader.FittingClauses.{FittingClauses}
 
 -- a length that is not 0 and does not pass the end
 abbrev pub length_fits : ℕ → List ℕ → Bool
@@ -54,6 +55,11 @@ abbrev pub Reads : Clauses → Option (Result (Bor (List ℕ)) Fault) → Clause
 Reads s r t =
     (t.left.node ≡ s.left.node)
     × MatchOption r ((left_of s ≡ []) × (left_of t ≡ [])) (λ x. MatchResult x (λ c. Front (left_of s) c.now (left_of t)) (λ f. (f ≡ fault 2 s.left.node) × (front_cut (left_of s) ≡ true) × (left_of t ≡ [])))
+
+-- one step of a walk without faults from s to t: the first clause of what is left, or none where nothing is left or it is cut, and that stays
+abbrev pub ReadsFitting : FittingClauses → Option (Bor (List ℕ)) → FittingClauses → Type 0
+ReadsFitting s r t =
+    MatchOption r ((t.left.now ≡ s.left.now) × ((s.left.now ≡ []) ⊎ (front_cut s.left.now ≡ true))) (λ c. Front s.left.now c.now t.left.now)
 
 -- each of the clauses, so many at most, passes the test p
 unfoldable pub clauses_pass_by : ℕ → (List ℕ → Bool) → Fault → ℕ → List ℕ → Result (Unit {0}) Fault

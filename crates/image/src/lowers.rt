@@ -58,8 +58,12 @@ pub fn lower_nodes(run: Run<'_>) -> Result<Lower, Fault>
     ensures { elim result [ Ok low ↦ (whole run.entry.words.now ≡ true) × (low.0.items ≡ lower_of run.entry.node (clauses run.entry.words.now)) | Err f ↦ ((f ≡ fault 5 run.entry.node) × (8 < length (lower_of run.entry.node (clauses run.entry.words.now)))) ⊎ ((f ≡ fault 2 run.entry.node) × (whole run.entry.words.now ≡ false)) ] }
 {
     let mut low = Lower::none();
-    for clause in run.clauses() {
-        low.note_clause(clause?, run.node)?;
+    let mut walk = run.fitting_clauses();
+    while let Some(clause) = walk.next() {
+        low.note_clause(clause, run.node)?;
+    }
+    if !walk.left.is_empty() {
+        return Err(Refusal::Cut.at(run.node));
     }
     Ok(low)
 }

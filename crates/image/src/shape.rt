@@ -2,7 +2,7 @@ ghost use Rattle.std.specs.Prelude.{◌≡◌, ℕ, Bool, List};
 ghost use Rattle.image.specs.Runs.{clauses_pass};
 ghost use Rattle.network.specs.Clauses.{in_order, owned, owner};
 
-use crate::fault::Fault;
+use crate::fault::{Fault, Refusal};
 use crate::reader::Run;
 
 // A test that every clause of a run has to pass. No closure: the member `pass` names the test in what a walk promises.
@@ -53,10 +53,14 @@ pub fn owner_of(clause: &[u32]) -> u32
 pub fn check_clauses<T: ClauseTest>(run: Run<'_>, test: &T, fault: Fault) -> Result<(), Fault>
     ensures { result ≡ clauses_pass (T.pass test.now) fault run.entry.node run.entry.words.now }
 {
-    for clause in run.clauses() {
-        if !test.passes(clause?) {
+    let mut walk = run.fitting_clauses();
+    while let Some(clause) = walk.next() {
+        if !test.passes(clause) {
             return Err(fault);
         }
+    }
+    if !walk.left.is_empty() {
+        return Err(Refusal::Cut.at(run.node));
     }
     Ok(())
 }

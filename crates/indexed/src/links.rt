@@ -89,7 +89,7 @@ impl<'a> Linked<'a> {
         ensures room { result.room ≡ (if nat_le room 4096 && nat_le (2 * (2048 + 31 * room)) (length words.old) then room else 0) }
         ensures none { (k : ℕ) → used_in result.room result.words.now k ≡ [] }
     {
-        let room = if room <= 4096 && words.len() >= 2 * nodes(room) as usize {
+        let room = if room > 0 && room <= 4096 && words.len() >= 2 * nodes(room) as usize {
             scatter(words, nodes(room));
             room
         } else {

@@ -28,8 +28,7 @@ pub(crate) fn search_rows(run: WholeRun<'_>, low: &[u32]) -> Result<bool, Fault>
         };
         let mut off = true;
         let mut on = true;
-        for clause in run.run.clauses() {
-            let clause = clause?;
+        for clause in run.run.fitting_clauses() {
             off = off && without.holds(clause);
             on = on && with.holds(clause);
             if !off && !on {

@@ -5,13 +5,7 @@ use Rattle.network.specs.Assignments.{node}
 use Rattle.network.specs.Lists.{In}
 use Rattle.network.specs.Clauses.{Rising, Ordered, Subsumes}
 use Rattle.network.specs.Subsumption.{Strengthens, part_of, opposite_noted, fits_from, fits_but_one, Fitted, test_answer, fits}
-use Rattle.network.proofs.Subsumption.{fitted, sub_not_but, but_one}
-
-abbrev first : Bool × Option ℕ → Bool
-first r = r.0
-
-abbrev second : Bool × Option ℕ → Option ℕ
-second r = r.1
+use Rattle.network.proofs.Subsumption.{first, second, fitted, sub_not_but, but_one}
 
 -- what holds of each step of the walk holds of its answer
 pub record Steps (P : Option ℕ → List ℕ → List ℕ → Bool × Option ℕ → Type 0) : Type 0 where

@@ -25,7 +25,7 @@ known_kept n m k xs h = ⊎_elim inl (λ r. inr (⊎_elim inl (λ i. inr (noted_
 noted_in_known : (n k : ℕ) (xs C : List ℕ) → Known n xs k → Known n (noted_in n xs C) k
 noted_in_known n k xs C h = fold_keeps (λ ys. Known n ys k) (λ ys l. noted n ys (node l)) C (λ l i ys. known_kept n (node l) k ys) xs h
 
-noted_in_gets : (n : ℕ) (xs C : List ℕ) (l : ℕ) → In l C → Known n (noted_in n xs C) (node l)
+pub noted_in_gets : (n : ℕ) (xs C : List ℕ) (l : ℕ) → In l C → Known n (noted_in n xs C) (node l)
 noted_in_gets n xs C l i = fold_gets (λ ys. Known n ys (node l)) (λ ys m. noted n ys (node m)) C l i (λ m ys. known_kept n (node m) (node l) ys) (noted_gets n (node l)) xs
 
 -- each node that a clause of n names is 0, n or one of the lower ones

@@ -1,11 +1,11 @@
 -- `fits_but_one` answers whether a clause is part of another, but for one opposite literal. Assumes nothing.
-use Rattle.std.proofs.Common.{◌≡◌, ℕ, ◌<◌, ◌≤◌, Bool, true, false, eqb, ltb, List, [], ◌∷◌, Some, None, Option, refl, subst, inl, arith}
+use Rattle.std.proofs.Common.{◌≡◌, ℕ, ◌<◌, ◌≤◌, Bool, true, false, eqb, ltb, ◌↔◌, List, [], ◌∷◌, Some, None, Option, refl, ap, subst, inl, arith}
 use Rattle.std.proofs.lemmas.Bool.{cond_both, cases_eq, eqb-true, eqb-false}
 use Rattle.std.proofs.lemmas.Bool.Decides.{nat_tests}
 use Rattle.network.specs.Assignments.{node, opposite}
 use Rattle.network.specs.Lists.{In}
 use Rattle.network.specs.Clauses.{Ordered, Subsumes}
-use Rattle.network.specs.Subsumption.{opposite_noted, fits_from, Strengthens, Fitted}
+use Rattle.network.specs.Subsumption.{opposite_noted, fits_from, fits_but_one, Strengthens, Fitted}
 use Rattle.network.proofs.Literals.{signs}
 use Rattle.network.proofs.Ordered.{ordered_once}
 
@@ -70,3 +70,24 @@ sub_not_but C D l o s b = grind (arith, signs, ordered_once D o (opposite l) l)
 
 pub but_one : (C D : List ℕ) (l m : ℕ) → Ordered D → Strengthens l C D → Strengthens m C D → l ≡ m
 but_one C D l m o b c = grind (arith, signs, cases_eq l m, ordered_once D o (opposite l) l)
+
+abbrev pub first : Bool × Option ℕ → Bool
+first r = r.0
+
+abbrev pub second : Bool × Option ℕ → Option ℕ
+second r = r.1
+
+-- what `fits_but_one` answers of clauses in order, exactly
+module _ (C D : List ℕ) (oC : Ordered C) (oD : Ordered D) where
+  answer_sub : (r : Bool × Option ℕ) → Fitted None C D r → (r ≡ (true, None)) ↔ Subsumes C D
+  answer_sub (true, None) h = ((λ e. h), λ s. refl)
+  answer_sub (true, Some l) h = ((λ e. grind (arith, ap second e)), λ s. absurd (sub_not_but C D l oD s h))
+  answer_sub (false, o) h = ((λ e. grind (arith, ap first e)), λ s. absurd (h.0 s))
+
+  answer_but : (l : ℕ) (r : Bool × Option ℕ) → Fitted None C D r → (r ≡ (true, Some l)) ↔ Strengthens l C D
+  answer_but l (true, None) h = ((λ e. grind (arith, ap second e)), λ b. absurd (sub_not_but C D l oD h b))
+  answer_but l (true, Some m) h = ((λ e. let g = ap second e in let q : m ≡ l = cc in subst (λ k. Strengthens k C D) q h), λ b. ap (λ k. (true, Some k)) (but_one C D m l oD h b))
+  answer_but l (false, o) h = ((λ e. grind (arith, ap first e)), λ b. absurd (h.1 l b))
+
+  pub fits_exactly : ((fits_but_one C D ≡ (true, None)) ↔ Subsumes C D) × ((l : ℕ) → (fits_but_one C D ≡ (true, Some l)) ↔ Strengthens l C D)
+  fits_exactly = (answer_sub (fits_but_one C D) (fitted D C None oC oD), λ l. answer_but l (fits_but_one C D) (fitted D C None oC oD))

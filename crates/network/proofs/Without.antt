@@ -1,7 +1,7 @@
 -- Without a node: a network from which the clauses that name the node v are gone, where each node of the rest has a
 -- value, v has one alone, and the resolvents upon v hold. Assumes nothing.
-use Rattle.std.proofs.Common.{◌≡◌, ℕ, suc, ◌<◌, ◌≤◌, Bool, true, false, not, ◌⊎◌, List, sym, ◌∙◌, inl, inr, ⊎_elim, arith}
-use Rattle.std.proofs.lemmas.Bool.{cases_eq, cases_order, cases_Bool}
+use Rattle.std.proofs.Common.{◌≡◌, ℕ, suc, ◌<◌, ◌≤◌, Bool, true, false, not, ◌⊎◌, List, sym, refl, ◌∙◌, inl, inr, ⊎_elim, arith}
+use Rattle.std.proofs.lemmas.Bool.{cases_eq, cases_lt, cases_order, cases_Bool}
 use Rattle.std.proofs.lemmas.Bool.Decides.{nat_tests}
 use Rattle.network.specs.Assignments.{Assignment, node, opposite, lit, put, holds, sat}
 use Rattle.network.specs.Lists.{In}
@@ -10,7 +10,7 @@ use Rattle.network.specs.Networks.{Network, level, Owned, Free}
 use Rattle.network.specs.Resolution.{Resolves}
 use Rattle.network.proofs.Literals.{lit_neg, lit_agree, put_apart, node_cases}
 use Rattle.network.proofs.Lists.{all_at, all_from, all_not, any_from, any_some, any_none}
-use Rattle.network.proofs.Holding.{holds_put}
+use Rattle.network.proofs.Holding.{holds_agree, holds_put}
 use Rattle.network.proofs.Levels.{below_more, below_put, below_agree}
 use Rattle.network.proofs.Networks.{locals, clause_at}
 
@@ -97,6 +97,10 @@ module _ (own new : Network) (v : ℕ) (wf : Owned own)
               | inr (inr m) ↦ ⊎_elim (any_from (lit (put σ v b)) C x xC) (use_holds j x C σ b m i xC nx (λ n p. s n (omega arith)) h) (cases_Bool (lit (put σ v b) x))
             ]
 
+    -- a model of the old network is one of the new, which has fewer clauses
+    pub models_kept : (k : ℕ) (σ : Assignment) → Below (level own) k σ → Below (level new) k σ
+    models_kept k σ s j l = all_from (holds σ) (new j) (λ C i. clause_at own k j C σ s l (part j C i))
+
     -- a model of the new network has a value of v that makes it a model of the old one, and not two
     pub has_value : (k : ℕ) (σ : Assignment) → v ≤ k → Below (level new) k σ → (b : Bool) × level own v (put σ v b) × Below (level own) k (put σ v b)
     has_value k σ l s = grind (arith, nat_tests, lower v σ, restored k σ)
@@ -104,6 +108,18 @@ module _ (own new : Network) (v : ℕ) (wf : Owned own)
     pub one_value : (k : ℕ) (σ : Assignment) → v < k → Below (level own) k (put σ v true) → Below (level own) k (put σ v false) → ⊥
     one_value k σ l p q =
         unique σ (below_agree (level own) (locals own wf) v (put σ v true) σ (λ n m. put_apart σ v true n (λ e. omega arith)) (λ j m. p j (omega arith))) (p v l) (q v l)
+
+    -- each node of the new network has a value
+    pub total_new : (k : ℕ) → Total (level new) k
+    total_new k σ s = ⊎_elim (λ l. above (has_value k σ (omega arith) s)) (λ l. let c = total k σ (lower k σ l s) in (c.0, fit σ c.0 (λ n a. refl) c.1)) (cases_lt v k)
+      where
+        fit : (τ : Assignment) (c : Bool) → ((n : ℕ) → (n ≡ v → ⊥) → put τ k c n ≡ put σ k c n) → level own k (put τ k c) → level new k (put σ k c)
+        fit τ c e t =
+            all_from (holds (put σ k c)) (new k)
+            (λ C i. holds_agree (put σ k c) (put τ k c) C (λ x j. sym (e (node x) (free k C i x j))) ∙ all_at (holds (put τ k c)) (own k) t C (part k C i))
+
+        above : (b : Bool) × level own v (put σ v b) × Below (level own) k (put σ v b) → (c : Bool) × level new k (put σ k c)
+        above (b, h, o) = let c = total k (put σ v b) o in (c.0, fit (put σ v b) c.0 (put_under σ v k b c.0) c.1)
 
     pub unique_new : (k : ℕ) → (k ≡ v → ⊥) → Unique (level own) k → Unique (level new) k
     unique_new k a u σ s p q = elim (cases_order v k) [

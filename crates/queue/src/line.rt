@@ -18,7 +18,9 @@ impl Queue<'_> {
     pub(crate) fn admits(&self, entry: u32) -> bool
         ensures { Decides result (Enters self.now entry) }
     {
-        self.len < self.entries.len() && (entry as usize) < self.places.len() && !self.waits(entry)
+        self.len < self.entries.len()
+            && (entry as usize) < self.places.len()
+            && self.place(entry).is_none()
     }
 
     // Adds an entry behind the others.

@@ -9,9 +9,11 @@ use std::io::{BufRead, BufReader};
 
 // The words of a line.
 fn words_of(heap: Global, line: &str) -> anyhow::Result<Vec<u32>> {
-    line.split_whitespace()
-        .map(|number| Ok(number.parse::<u32>()?))
-        .try_collect(heap)
+    let mut words = Vec::new(heap);
+    for number in line.split_whitespace().map(str::parse::<u32>) {
+        words.push(number?)?;
+    }
+    Ok(words)
 }
 
 // Opens one input, and prints what came of it.

@@ -33,6 +33,10 @@ module _ (heads nodes : ℕ) (ws : List ℕ) (held : Held heads nodes ws) where
   pub ring_differ : (l : ℕ) → l < heads → Differ (ring heads nodes ws l)
   ring_differ l h = path_differ (next ws) (prev ws) heads l (ring heads nodes ws l) (held.1.1 l h) h (ring_slots l h).0
 
+  -- a ring has at most as many slots as there are nodes
+  pub ring_few : (l : ℕ) → l < heads → length (ring heads nodes ws l) ≤ nodes
+  ring_few l h = few nodes (ring heads nodes ws l) (ring_differ l h) (ring_slots l h).1
+
   -- a slot in a ring does not stand alone
   pub not_alone : (l i : ℕ) → l < heads → i < length (ring heads nodes ws l) → prev ws (get_or (ring heads nodes ws l) i 0) ≡ get_or (ring heads nodes ws l) i 0 → ⊥
   not_alone l zero h k e =

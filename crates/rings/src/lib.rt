@@ -3,8 +3,8 @@
 // Holds the writers of rings (`unlink`, `link`, `shift`, `swap_out`, `scatter`), the readers `after` and `ring`, and the laws that
 // say what each makes of the lists (specs/, proofs/). Node n has two words: at 2n the node after it, at 2n + 1 the node before it.
 // Nodes below a number of heads are heads; the others are slots, and a slot in no ring is linked to itself. The links are numbers in
-// words, for a store has no memory but what it is lent. These are functions over words and no struct: a store's words hold its
-// clauses too, and a change of a store makes all its writes in one borrow of them.
+// words, for a store has no memory but what it is lent. These are functions over words and no struct: own lists and both kinds of
+// index have rings with other numbers of heads and facts of their own, and a change makes all its writes in one borrow of the words.
 // Promises: each function writes and answers exactly what its definition says, on any words at all, and asks nothing of a
 // caller; where rings stand, each changes the lists as the laws say. Rests on nothing but the standard library.
 #![tactic(auto)]

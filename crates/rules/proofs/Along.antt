@@ -60,7 +60,7 @@ module _ (R : Meaning → Meaning → Type 0) (o : Chains R) (removes : (l i : �
   unfolding clear
   clear_along l marks M = cleared_along (length (M.own l)) l 0 _ M
 
-  clear_all_along : (l : ℕ) (M : Meaning) → R M (clear_all l M)
+  pub clear_all_along : (l : ℕ) (M : Meaning) → R M (clear_all l M)
   unfolding clear_all
   clear_all_along l M = clear_along l _ M
 
@@ -95,7 +95,7 @@ module _ (R : Work → Work → Type 0) (s : Steps R) where
   removes_at : (W : Work) (l i : ℕ) (M : Meaning) → i < length (M.own l) → At W M (removed l i M)
   removes_at W l i M = s.removes l i (storing W M)
 
-  judged_along : (Cs : List (List ℕ)) (W : Work) → R W (judged Cs W).1
+  pub judged_along : (Cs : List (List ℕ)) (W : Work) → R W (judged Cs W).1
   unfolding judged
   judged_along [] W = o.same W
   judged_along (C ∷ Cs) W = go (fate W.values C) (judged_along Cs)
@@ -115,7 +115,7 @@ module _ (R : Work → Work → Type 0) (s : Steps R) where
       (o.next p.1 q.1 (const_node n W) (judged_along (own_of W (2 * n + 1)) p.1)
       (o.next q.1 (storing q.1 M) (const_node n W) (clear_along (At q.1) (at q.1) (removes_at q.1) (2 * n) p.0 q.1.store) (clear_along (At q.1) (at q.1) (removes_at q.1) (2 * n + 1) q.0 M)))
 
-  drop_along : (n : ℕ) (W : Work) → R W (const_drop n W)
+  pub drop_along : (n : ℕ) (W : Work) → R W (const_drop n W)
   unfolding const_drop
   drop_along n W = go (W.values n)
     where
@@ -142,7 +142,7 @@ module _ (R : Work → Work → Type 0) (s : Steps R) where
   attempt_along n W = cond_both (passed_over W n) W (attempted n (all_resolvents W.store n) W) (R W) (λ e. o.same W)
       (λ e. cond_both (given_up W n (all_resolvents W.store n)) W (eliminated n (all_resolvents W.store n) W) (R W) (λ f. o.same W) (λ f. eliminated_along n (all_resolvents W.store n) W))
 
-  attempts_along : (f : ℕ) (ws : List ℕ) (W : Work) → R W (attempts f ws W)
+  pub attempts_along : (f : ℕ) (ws : List ℕ) (W : Work) → R W (attempts f ws W)
   unfolding attempts
   attempts_along zero ws W = o.same W
   attempts_along (suc f) [] W = o.same W

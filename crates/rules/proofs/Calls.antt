@@ -31,7 +31,7 @@ add_nodes C W = entry_cases C W (SameNodes W) (refl, refl) (λ S e. (refl, refl)
 nodes_steps : Steps SameNodes
 nodes_steps = record { chains = nodes_chains; enters = add_nodes; removes = λ l i W h. (refl, refl); takes = λ n W. (refl, refl) }
 
-const_nodes : (W : Work) → SameNodes W (const_simplify W)
+pub const_nodes : (W : Work) → SameNodes W (const_simplify W)
 const_nodes = const_along SameNodes nodes_steps (λ W. (refl, refl))
 
 bve_nodes : (W : Work) → SameNodes W (bve_simplify W)

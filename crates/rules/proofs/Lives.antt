@@ -9,7 +9,7 @@ use Rattle.network.specs.Clauses.{last}
 use Rattle.rules.specs.Store.{Meaning, literals, sum_of, live_clauses, kept_clauses, entered, removed, retired, shortened, index_on, index_off, droppable, retire, shorten}
 use Rattle.rules.proofs.Places.{in_at, at_in, retired_own, retired_apart, shortened_length, part_at}
 use Rattle.rules.proofs.Index.{removed_own, removed_apart, removed_length, swap_length, swap_here, swap_other, entered_own, entered_apart}
-use Rattle.rules.proofs.Along.{fewer_chains, allowed_along, clear_along}
+use Rattle.rules.proofs.Along.{equal_chains, fewer_chains, allowed_along, clear_along}
 use Rattle.rules.proofs.HowMany.{sum_apart, sum_less, sum_up, sum_le}
 use Rattle.rules.specs.Work.{clear}
 
@@ -67,13 +67,20 @@ pub removed_dead : (M : Meaning) (l i : ℕ) → (removed l i M).dead_clauses �
 unfolding removed
 removed_dead M l i = refl
 
+pub removed_fewer : (M : Meaning) (l i : ℕ) → live_clauses (removed l i M) ≤ live_clauses M
+removed_fewer M l i = fewer_at M (removed l i M) l (removed_apart M l i) (omega (arith, removed_length M l i))
+
 pub removed_kept : (M : Meaning) (l i : ℕ) → kept_clauses (removed l i M) ≤ kept_clauses M
-removed_kept M l i = omega (arith, fewer_at M (removed l i M) l (removed_apart M l i) (omega (arith, removed_length M l i)), removed_dead M l i)
+removed_kept M l i = omega (arith, removed_fewer M l i, removed_dead M l i)
 
 pub retire_fewer : (l i : ℕ) (M : Meaning) → live_clauses (retire l i M).0 ≤ live_clauses M
 unfolding retire
 retire_fewer l i M = grind (arith, allowed_along, fewer_chains live_clauses, fewer_at, retired_apart, retired_own, length-remove, ltb-true i)
 
-pub shorten_fewer : (l i x : ℕ) (M : Meaning) → live_clauses (shorten l i x M).0 ≤ live_clauses M
+-- a shortening leaves as many clauses
+pub shorten_same : (l i x : ℕ) (M : Meaning) → live_clauses (shorten l i x M).0 ≡ live_clauses M
 unfolding shorten
-shorten_fewer l i x M = allowed_along (λ M N. live_clauses N ≤ live_clauses M) (fewer_chains live_clauses) (droppable M l i x) M (shortened l i x M) (λ e. omega (arith, shortened_live M l i x))
+shorten_same l i x M = allowed_along (λ M N. live_clauses N ≡ live_clauses M) (equal_chains live_clauses) (droppable M l i x) M (shortened l i x M) (λ e. shortened_live M l i x)
+
+pub shorten_fewer : (l i x : ℕ) (M : Meaning) → live_clauses (shorten l i x M).0 ≤ live_clauses M
+shorten_fewer l i x M = omega (arith, shorten_same l i x M)

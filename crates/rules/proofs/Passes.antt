@@ -17,7 +17,7 @@ use Rattle.rules.proofs.Lawful.{own_small, entered_lawful, removed_lawful, retir
 abbrev pub Keeps : Meaning → Meaning → Type 0
 Keeps M N = Lawful M → Lawful N × (N.room ≡ M.room)
 
-keeps_chains : Chains Keeps
+pub keeps_chains : Chains Keeps
 keeps_chains = record { same = λ M L. (L, refl); next = λ M N R f g L. let (a, b) = f L in let (c, d) = g a in (c, d ∙ b) }
 
 entered_room : (C : List ℕ) (M : Meaning) → (entered C M).room ≡ M.room
@@ -36,7 +36,7 @@ shortened_room : (l i x : ℕ) (M : Meaning) → (shortened l i x M).room ≡ M.
 unfolding shortened
 shortened_room l i x M = refl
 
-enter_keeps : (C : List ℕ) (M : Meaning) → Keeps M (enter C M).0
+pub enter_keeps : (C : List ℕ) (M : Meaning) → Keeps M (enter C M).0
 unfolding enter
 enter_keeps C M = allowed_along Keeps keeps_chains (enterable M C) M (entered C M) (λ e L. (entered_lawful C M L e, entered_room C M))
 
@@ -77,13 +77,13 @@ changes_lawful = record {
 abbrev pub KeepsWork : Work → Work → Type 0
 KeepsWork W N = Keeps W.store N.store
 
-add_keeps : (C : List ℕ) (W : Work) → KeepsWork W (add C W)
+pub add_keeps : (C : List ℕ) (W : Work) → KeepsWork W (add C W)
 add_keeps C W = entry_cases C W (KeepsWork W) (keeps_chains.same W.store) (λ S e. enter_keeps S W.store)
 
 keeps_work : Chains KeepsWork
 keeps_work = record { same = λ W. keeps_chains.same W.store; next = λ W N R. keeps_chains.next W.store N.store R.store }
 
-keeps_steps : Steps KeepsWork
+pub keeps_steps : Steps KeepsWork
 keeps_steps = record { chains = keeps_work; enters = add_keeps; removes = λ l i W. removed_keeps l i W.store; takes = λ n W. keeps_chains.same W.store }
 
 pub adds_keep : (Cs : List (List ℕ)) (W : Work) → KeepsWork W (each add Cs W)

@@ -1,5 +1,5 @@
 -- Lists by places, and the network of a store. Assumes nothing.
-use Rattle.std.proofs.Common.{◌≡◌, ℕ, zero, suc, ◌+◌, ◌-◌, ◌*◌, ◌<◌, cond, ltb, ◌⊎◌, List, [], ◌∷◌, length, get_or, set, sym, refl, ap, ◌∙◌, subst, inl, inr, ⊎_elim, arith}
+use Rattle.std.proofs.Common.{◌≡◌, ℕ, zero, suc, ◌+◌, ◌-◌, ◌*◌, ◌<◌, ◌≤◌, cond, ltb, ◌⊎◌, List, [], ◌∷◌, length, get_or, set, sym, refl, ap, ◌∙◌, subst, inl, inr, ⊎_elim, arith}
 use Rattle.std.specs.List.{remove}
 use Rattle.std.proofs.lemmas.Bool.{cases_eq}
 use Rattle.std.proofs.lemmas.Bool.Decides.{nat_tests}
@@ -34,6 +34,21 @@ module _ {X : Type 0} where
   in_closed [] i x d h = absurd h
   in_closed (y ∷ xs) zero x d h = ⊎_elim inr inl h
   in_closed (y ∷ xs) (suc i) x d h = ⊎_elim (λ e. inl (inl e)) (λ j. ⊎_elim (λ k. inl (inr k)) inr (in_closed xs i x d j)) h
+
+  -- what stood before the place stands, and what stood behind it moves up
+  pub closed_below : (xs : List X) (i j : ℕ) (d : X) → j < i → get_or (remove xs i) j d ≡ get_or xs j d
+  closed_below [] zero j d l = absurd (omega arith)
+  closed_below [] (suc i) j d l = refl
+  closed_below (y ∷ xs) zero j d l = absurd (omega arith)
+  closed_below (y ∷ xs) (suc i) zero d l = refl
+  closed_below (y ∷ xs) (suc i) (suc j) d l = closed_below xs i j d (omega arith)
+
+  pub closed_above : (xs : List X) (i j : ℕ) (d : X) → i ≤ j → get_or (remove xs i) j d ≡ get_or xs (suc j) d
+  closed_above [] zero j d l = refl
+  closed_above [] (suc i) j d l = refl
+  closed_above (y ∷ xs) zero j d l = refl
+  closed_above (y ∷ xs) (suc i) zero d l = absurd (omega arith)
+  closed_above (y ∷ xs) (suc i) (suc j) d l = closed_above xs i j d (omega arith)
 
   -- set
   pub set_in : (xs : List X) (i : ℕ) (y x : X) → In x (set xs i y) → In x xs ⊎ (x ≡ y)

@@ -17,7 +17,7 @@ impl<'a> Searched<'a> {
         ensures room { result.room ≡ (if nat_le room 4096 && nat_le (2 * (room + 1)) (length words.old) then room else 0) }
         ensures none { sequence result.room result.words.now ≡ [] }
     {
-        let room = if room <= 4096 && words.len() >= 2 * (room as usize + 1) {
+        let room = if room > 0 && room <= 4096 && words.len() >= 2 * (room as usize + 1) {
             scatter(words, room + 1);
             room
         } else {

@@ -1,11 +1,12 @@
 use Rattle.std.proofs.Common.{◌≡◌, ◌+◌, ◌≤◌, length}
-use Rattle.image.specs.Runs.{clauses, left_of, whole}
+use Rattle.image.specs.Runs.{clauses, whole}
 use Rattle.image.proofs.reader.Run.count_clauses.Given as goal
 
-abbrev pub invariant-loop-clause : goal.invariant-loop-clause
-invariant-loop-clause l =
-    (goal.iterator-loop-clause).can_next l.clause-iterator × (goal.iterator-loop-clause).is_finite l.clause-iterator
-    × (l.clause-iterator.left.node ≡ l.self.node)
-    × (whole (left_of l.clause-iterator) ≡ whole l.self.words.now)
-    × (l.count + length (clauses (left_of l.clause-iterator)) ≡ length (clauses l.self.words.now))
-    × (l.count + length (left_of l.clause-iterator) ≤ length l.self.words.now)
+abbrev pub invariant-loop-count : goal.invariant-loop-count
+invariant-loop-count l =
+    (whole l.walk.left.now ≡ whole l.self.words.now)
+    × (l.count + length (clauses l.walk.left.now) ≡ length (clauses l.self.words.now))
+    × (l.count + length l.walk.left.now ≤ length l.self.words.now)
+
+abbrev pub decreases-loop-count : goal.decreases-loop-count
+decreases-loop-count l = length l.walk.left.now
